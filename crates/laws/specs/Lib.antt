@@ -1,0 +1,4 @@
+pub mod Choice
+pub mod Tests
+pub mod Outcomes
+pub mod Parts
