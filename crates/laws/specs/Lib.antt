@@ -2,3 +2,4 @@ pub mod Choice
 pub mod Tests
 pub mod Outcomes
 pub mod Parts
+pub mod Opened

@@ -1,0 +1,8 @@
+-- Opens every definition of the crate, and those below it, for what is computed.
+use Prim.Native.Nat.{ℕ}
+use Rattle.laws.specs.Choice.{pick}
+use Rattle.laws.specs.Tests.{all, every}
+
+unfoldable pub lawsOpened : ℕ
+unfolding pick all every
+lawsOpened = 0

@@ -1,0 +1,13 @@
+pub mod Hand
+pub mod Search
+pub mod Validate
+pub mod Attempt
+pub mod Execute
+pub mod Help
+pub mod Scan
+pub mod Decide
+pub mod Apply
+pub mod Turn
+pub mod Opened
+pub mod Play
+pub mod Evenings

@@ -1,0 +1,68 @@
+-- Evenings played from fresh tables, as 01 tells them.
+use Prim.Native.Nat.{ℕ, _+_, _*_}
+use mathlib.Core.List.{List}
+use lib.ListN.{replicate, take, drop}
+use lib.IntN.{ℤ, pos}
+use Rattle.shapes.specs.declared.Outcome.{Outcome}
+use Rattle.tables.specs.Names.{keyOf}
+use Rattle.tables.specs.Nodes.{nodeWidth}
+use Rattle.tables.specs.Records.{recordWidth}
+use Rattle.tables.specs.World.{World, totalsOf, idle, spot}
+use Rattle.tables.specs.Fresh.{freshOf}
+use Rattle.steps.specs.Turn.{Ran, insertOf, deleteOf, findOf, scanOf, runFrom}
+
+-- tables for N, M and three workers, lent full of nines, a few places longer than they need be
+abbrev pub lent : ℕ → ℕ → World
+lent n m = record {
+  board = record { totals = record { n = 9; m = 9; p = 9; nodes = 9; records = 9; counter = 9 }; workers = replicate 8 idle };
+  nodes = replicate (n * nodeWidth + 3) 9;
+  records = replicate (m * recordWidth + 3) 9;
+  pending = replicate (n * 3 + 3) 9;
+  found = replicate (n * 3 + 3) (pos 9);
+}
+
+unfoldable pub fresh : ℕ → ℕ → World
+fresh n m = freshOf n m 3 (lent n m) .world
+
+unfoldable pub insert : ℕ → ℤ → World → World
+insert w k s = insertOf s w (keyOf k) .world
+
+unfoldable pub delete : ℕ → ℤ → World → World
+delete w k s = deleteOf s w (keyOf k) .world
+
+unfoldable pub find : ℕ → ℤ → World → World
+find w k s = findOf s w (keyOf k) .world
+
+unfoldable pub scans : ℕ → ℤ → ℤ → World → World
+scans w a b s = scanOf s w (keyOf a) (keyOf b) .world
+
+-- so many turns of worker w, where it had taken so many before
+unfoldable pub turnsAfter : ℕ → ℕ → ℕ → World → Ran
+turnsAfter before k w s = runFrom k before w s
+
+-- enough turns for any operation that is played here
+abbrev pub toTheEnd : ℕ
+toTheEnd = 100
+
+unfoldable pub answer : ℕ → World → Ran
+answer w s = turnsAfter 0 toTheEnd w s
+
+-- ---- what an evening shows
+
+pub record Shown : Type 0 where
+  pub outcome : Outcome
+  pub turns : ℕ
+  pub nodes : ℕ
+  pub records : ℕ
+  pub counter : ℕ
+
+abbrev pub shown : Outcome → ℕ → ℕ → ℕ → ℕ → Shown
+shown o n a b c = record { outcome = o; turns = n; nodes = a; records = b; counter = c }
+
+-- the outcome, the turns, nodes used, records used, Counter
+unfoldable pub show : Ran → Shown
+show r = shown (r .outcome) (r .turns) (totalsOf (r .world) .nodes) (totalsOf (r .world) .records) (totalsOf (r .world) .counter)
+
+-- the first k found keys of worker w
+unfoldable pub keysOf : ℕ → ℕ → Ran → List ℤ
+keysOf k w r = take k (drop (spot (totalsOf (r .world)) w 0) (r .world .found))
