@@ -67,6 +67,17 @@ says-pick {c} {a} {b} s x y = record { out = apart c a b (s .back) (s .out) (x .
     joined true a b o i f g h = f (h .0 (o refl))
     joined false a b o i f g h = g (h .1 (λ k. false≢true (i k)))
 
+-- the same test, said otherwise
+pub says-as : {b : Bool} {A B : Type 0} → Says b A → (A → B) → (B → A) → Says b B
+says-as s there here = record { out = λ e. there (s .out e); back = λ h. s .back (here h) }
+
+-- a test that always passes, and one that is its own meaning
+pub says-yes : Says true (Unit {0})
+says-yes = record { out = λ e. tt; back = λ h. refl }
+
+pub says-itself : (b : Bool) → Says b (b ≡ true)
+says-itself b = record { out = λ e. e; back = λ e. e }
+
 -- ---- many tests
 
 -- every test of a list

@@ -176,6 +176,19 @@ pub enum Outcome {
     Refused(Refusal),
 }
 
+// What a call answers: the board as it leaves it, and what it came to.
+pub struct Reply {
+    pub board: Board,
+    pub outcome: Outcome,
+}
+
+// What a run of turns answers, with the turns taken.
+pub struct Run {
+    pub board: Board,
+    pub outcome: Outcome,
+    pub turns: u32,
+}
+
 // ---- what a turn decides
 
 // The operations that make attempts.

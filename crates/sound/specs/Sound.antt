@@ -25,7 +25,7 @@ use Rattle.shapes.specs.declared.Operation.the-variants.{Insert, Delete, Find, 
 use Rattle.shapes.specs.declared.Condition.{Condition}
 use Rattle.shapes.specs.declared.Condition.the-variants.{Idle, Busy}
 use Rattle.tables.specs.Names.{node, recordNo, root, dummy}
-use Rattle.tables.specs.Nodes.{nodeWord, kindAt, isInternal, rankAt, phaseAt, prevAt, childAt, updateAt}
+use Rattle.tables.specs.Nodes.{kindAt, isInternal, rankAt, phaseAt, prevAt, childAt, updateAt}
 use Rattle.tables.specs.Records.{recordWidth, recordWord, recordRow, aborted, unfilled, countAt, stateAt, parAt, oldChildAt, newChildAt, seqAt, entryAt}
 use Rattle.tables.specs.World.{Tables, World, totalsOf, tablesOf, workerAt, pendingAt}
 use Rattle.tables.specs.Fresh.{between, sizesOk, lentOk}
@@ -55,9 +55,12 @@ usedOk t = all (between 3 (t .nodes) (t .n) ∷ between 1 (t .records) (t .m) �
 
 -- ---- Root and dummy as fresh but for Root's children and update word
 
--- kind, key class, key, phase, no prev
+unfoldable pub isAbsent : MaybeNode → Bool
+isAbsent Absent = true
+isAbsent (At x) = false
+
 unfoldable pub rootOk : List ℕ → Bool
-rootOk ns = every 6 (λ f. eqb (nodeWord ns root f) (getD (1 ∷ 2 ∷ []) f 0))
+rootOk ns = all (eqb (kindAt ns root) 1 ∷ eqb (rankAt ns root .class) 2 ∷ eqb (rankAt ns root .word) 0 ∷ eqb (phaseAt ns root) 0 ∷ isAbsent (prevAt ns root) ∷ [])
 
 unfoldable pub dummyOk : List ℕ → Bool
 dummyOk rs = every recordWidth (λ f. eqb (recordWord rs dummy f) (getD (recordRow aborted unfilled) f 0))

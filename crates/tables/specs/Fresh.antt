@@ -10,6 +10,7 @@ use Rattle.laws.specs.Tests.{all}
 use Rattle.shapes.specs.Numbers.{leastN, mostN, leastM, mostM, leastP, mostP}
 use Rattle.shapes.specs.declared.Totals.{Totals}
 use Rattle.shapes.specs.declared.Board.{Board}
+use Rattle.shapes.specs.declared.Reply.{Reply}
 use Rattle.shapes.specs.declared.Outcome.{Outcome}
 use Rattle.shapes.specs.declared.Outcome.the-variants.{Going, Refused}
 use Rattle.shapes.specs.declared.Refusal.{Refusal}
@@ -18,12 +19,15 @@ use Rattle.shapes.specs.declared.MaybeNode.the-variants.{Absent}
 use Rattle.tables.specs.Names.{node, phase, root, dummy, infinite}
 use Rattle.tables.specs.Nodes.{nodeWidth, newNode}
 use Rattle.tables.specs.Records.{recordWidth, newRecord, aborted, unfilled}
-use Rattle.tables.specs.World.{World, idle}
+use Rattle.tables.specs.World.{World, world, idle}
 
 -- all that a call leaves
 pub record Left : Type 0 where
   pub world : World
   pub outcome : Outcome
+
+abbrev pub left : Reply → List ℕ → List ℕ → List ℕ → List ℤ → Left
+left r ns rs ps fs = record { world = world (r .board) ns rs ps fs; outcome = r .outcome }
 
 -- a refusal leaves all as before
 abbrev pub refused : World → Refusal → Left

@@ -5,4 +5,6 @@ pub mod Records
 pub mod Versions
 pub mod World
 pub mod Fresh
+pub mod NodeWrites
+pub mod RecordWrites
 pub mod Opened

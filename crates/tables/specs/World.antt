@@ -25,6 +25,9 @@ pub record World : Type 0 where
   pub pending : List ℕ
   pub found : List ℤ
 
+abbrev pub world : Board → List ℕ → List ℕ → List ℕ → List ℤ → World
+world b ns rs ps fs = record { board = b; nodes = ns; records = rs; pending = ps; found = fs }
+
 abbrev pub tables : Totals → List ℕ → List ℕ → Tables
 tables t ns rs = record { totals = t; nodes = ns; records = rs }
 
