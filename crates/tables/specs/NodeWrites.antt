@@ -1,10 +1,11 @@
 -- What each way of writing a node does to each field of each node: same place, other place.
-use mathlib.Core.Path.{_≡_, refl, sym, ap, ap₂, _∙_}
+use mathlib.Core.Path.{_≡_, refl, sym, ap, ap₂, _∙_, subst}
 use mathlib.Core.Logic.{_≢_}
 use mathlib.Core.List.{List, [], _∷_}
 use mathlib.Core.Bool.{Bool, true, false}
 use Prim.Native.Nat.{ℕ, zero, suc, _+_, _*_, _≤_, _<_}
 use native.Mathlib.Omega.{arith}
+use native.Mathlib.Decide.{ℕ-discrete}
 use lib.ListN.{length, getD}
 use Rattle.laws.specs.Choice.{pick}
 use Rattle.shapes.specs.declared.NodeNo.{NodeNo}
@@ -91,6 +92,16 @@ pub child-setChild-side′ : (ns : List ℕ) (x c y : NodeNo) → childAt (setCh
 unfolding childAt setChild side
 child-setChild-side′ ns x c y = ap node (word-put-field nodeWidth ns (x .0) 7 (c .0) (y .0) 6 (omega arith) (omega arith) (omega arith))
 
+-- what holds of the child that was set, there, and of every child before, holds of every child after
+pub child-setChild-case : (Q : NodeNo → Type 0) (ns : List ℕ) (x : NodeNo) (left : Bool) (c : NodeNo) (rows : ℕ) → HasRows nodeWidth ns rows → x .0 < rows → (y : NodeNo) (s : Bool) → (y ≡ x → s ≡ left → Q c) → Q (childAt ns y s) → Q (childAt (setChild ns x left c) y s)
+child-setChild-case Q ns x left c rows r h y s set old = elim (ℕ-discrete (y .0) (x .0)) [ yes e ↦ there s left (ap node e) set old | no e ↦ subst Q (sym (child-setChild-node ns x left c y s e)) old ]
+  where
+    there : (s left : Bool) → y ≡ x → (y ≡ x → s ≡ left → Q c) → Q (childAt ns y s) → Q (childAt (setChild ns x left c) y s)
+    there true true e f q = rw e (subst Q (sym (child-setChild-same ns x true c rows r h)) (f e refl))
+    there false false e f q = rw e (subst Q (sym (child-setChild-same ns x false c rows r h)) (f e refl))
+    there false true e f q = subst Q (sym (child-setChild-side ns x c y)) q
+    there true false e f q = subst Q (sym (child-setChild-side′ ns x c y)) q
+
 -- ---- an update word
 
 module _ (ns : List ℕ) (x : NodeNo) (u : Update) where
@@ -122,6 +133,12 @@ module _ (ns : List ℕ) (x : NodeNo) (u : Update) where
     where
       other : (g : ℕ) → g < nodeWidth → nodeWord (setUpdate ns x u) y g ≡ nodeWord ns y g
       other g h = word-put-row nodeWidth _ (x .0) 9 (u .info .0) (y .0) g (omega arith) h ne ∙ word-put-row nodeWidth ns (x .0) 8 (u .mark) (y .0) g (omega arith) h ne
+
+pub update-setUpdate-case : (Q : Update → Type 0) (ns : List ℕ) (x : NodeNo) (u : Update) (rows : ℕ) → HasRows nodeWidth ns rows → x .0 < rows → (y : NodeNo) → (y ≡ x → Q u) → Q (updateAt ns y) → Q (updateAt (setUpdate ns x u) y)
+update-setUpdate-case Q ns x u rows r h y set old = elim (ℕ-discrete (y .0) (x .0)) [
+  | yes e ↦ let same : y ≡ x = ap node e in rw same (subst Q (sym (update-setUpdate-same ns x u rows r h)) (set same))
+  | no e ↦ subst Q (sym (update-setUpdate-node ns x u y e)) old
+]
 
 -- ---- a new node
 
