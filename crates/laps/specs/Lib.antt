@@ -1,0 +1,3 @@
+pub mod Laps
+pub mod Ranges
+pub mod Floor
