@@ -8,7 +8,7 @@ use lib.IntN.{ℤ, pos, negsuc, negℤ, natAbs, _+ℤ_, _-ℤ_, _*ℤ_}
 use lib.Signed.{mag, ltZ, quotZ, remZ, mag-rem}
 use mir.Syntax.{Width, w32}
 use mir.Val.{SFits, toZ, ofZ}
-use mir.ValLaws.{sfits-le, toZ-ofZ, toZ-pos}
+use mir.ValLaws.{sfits-le, toZ-ofZ}
 use Rattle.laps.specs.Laps.{mostDifference, lastEntry, entries, lapInRange, keyOf, floorDiv, floorRest}
 use Rattle.laps.specs.Ranges.{says-lap}
 use Rattle.laps.specs.Floor.{sum-below-zero, rest-below, floor-lowered, rest-raised, floor-as-is, rest-as-is}

@@ -1,5 +1,4 @@
 -- `laps::difference_in_range` is the definition's test: its bounds are the definition's.
-use mathlib.Core.Path.{sym, _∙_}
 use borrow.Author.Needs.{needs}
 use mir.Syntax.{w32}
 use mir.ValLaws.{toZ-ofZ}

@@ -1,6 +1,5 @@
 -- `laps::lap_of_key` gives the definition's answer: it tests the difference of the lap that `lap_at` found, which is the key's.
 use mathlib.Core.Path.{_≡_, sym, _∙_}
-use mathlib.Core.Bool.{true, false}
 use borrow.Author.Needs.{needs}
 use mir.Syntax.{w32}
 use mir.ValLaws.{toZ-ofZ}

@@ -1,5 +1,4 @@
 -- `laps::lies_between` says whether a value lies between two bounds: the two tests are the definition's.
-use mathlib.Core.Path.{_≡_, sym}
 use mir.Syntax.{w32}
 use mir.ValLaws.{toZ-ofZ}
 use Rattle.laps.specs.Laps.{between}
