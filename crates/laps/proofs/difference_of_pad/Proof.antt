@@ -7,7 +7,7 @@ use mir.Syntax.{w32}
 use mir.ValLaws.{toZ-ofZ}
 use Rattle.laws.specs.Choice.{pick-true, pick-false}
 use Rattle.laps.specs.Laps.{toldPad, differenceOfPad, padDifference, padInRange, padUnits}
-use Rattle.laps.proofs.Fits.{quotient-fits}
+use Rattle.laps.proofs.Quotients.{quotient-fits}
 use Rattle.laps.proofs.difference_of_pad.Statement.{statement}
 use Rattle.laps.proofs.difference_of_pad.Tie as tie
 
@@ -17,7 +17,7 @@ lies-between-requires c κs = search needs
 div-difference : tie.Need-div-difference
 div-difference c =
     let fits = c .before .before .fits .thousandths in
-    (omega arith, rw (toZ-ofZ w32 _ fits) (quotient-fits w32 _ padUnits fits))
+    (omega arith, rw (toZ-ofZ w32 _ fits) (quotient-fits w32 _ _ fits))
 
 returns : tie.Need-returns
 unfolding toldPad differenceOfPad padDifference padInRange
@@ -25,7 +25,7 @@ returns c =
     let r = c .before .before .args .thousandths in
     let fits = c .before .before .fits .thousandths in
     let inside : padInRange r ≡ true = rw (toZ-ofZ w32 r fits) at (sym (c .before .lies-between .ensures) ∙ c .if1 .taken) in
-    rw (toZ-ofZ w32 r fits, toZ-ofZ w32 _ (quotient-fits w32 r padUnits fits)) (sym (pick-true (padInRange r) _ _ inside))
+    simp (toZ-ofZ w32 r fits, toZ-ofZ w32 _ (quotient-fits w32 r padUnits fits)) (sym (pick-true (padInRange r) _ _ inside))
 
 returns-2 : tie.Need-returns-2
 unfolding toldPad differenceOfPad padInRange

@@ -6,7 +6,7 @@ use mir.Syntax.{w32}
 use mir.ValLaws.{toZ-ofZ}
 use Rattle.laws.specs.Choice.{pick-true, pick-false}
 use Rattle.laps.specs.Laps.{toldKey, keyOfLap, lapInRange}
-use Rattle.laps.proofs.Fits.{product-fits, entry-fits, key-fits, machine-key}
+use Rattle.laps.proofs.Keys.{product-fits, entry-fits, key-fits, machine-key}
 use Rattle.laps.proofs.key_of_lap.Statement.{statement}
 use Rattle.laps.proofs.key_of_lap.Tie as tie
 
@@ -31,7 +31,7 @@ add-key c =
 returns : tie.Need-returns
 unfolding toldKey keyOfLap
 returns c =
-    rw (toZ-ofZ w32 _ (c .before .before .fits .difference), machine-key _ _ (inside c), toZ-ofZ w32 _ (key-fits _ _ (inside c)))
+    simp (toZ-ofZ w32 _ (c .before .before .fits .difference), machine-key _ _ (inside c), toZ-ofZ w32 _ (key-fits _ _ (inside c)))
     (sym (pick-true _ _ _ (inside c)))
 
 returns-2 : tie.Need-returns-2

@@ -5,7 +5,7 @@ use mir.Syntax.{w32}
 use mir.ValLaws.{toZ-ofZ}
 use Rattle.laws.specs.Choice.{pick-true, pick-false}
 use Rattle.laps.specs.Laps.{toldLap, lapOfKey, lapAt, entries, floorDiv, differenceInRange}
-use Rattle.laps.proofs.Fits.{floor-fits}
+use Rattle.laps.proofs.Quotients.{floor-fits}
 use Rattle.laps.proofs.lap_of_key.Statement.{statement}
 use Rattle.laps.proofs.lap_of_key.Tie as tie
 
@@ -26,7 +26,7 @@ tested c =
 
 returns : tie.Need-returns
 unfolding toldLap lapOfKey
-returns c = rw (lap (c .before .before .before)) (sym (pick-true _ _ _ (sym (tested (c .before)) ∙ c .if1 .taken)))
+returns c = simp (lap (c .before .before .before)) (sym (pick-true _ _ _ (sym (tested (c .before)) ∙ c .if1 .taken)))
 
 returns-2 : tie.Need-returns-2
 unfolding toldLap lapOfKey
