@@ -32,8 +32,8 @@ abbrev pub mostPad : ℕ
 mostPad = 10000000
 
 -- thousandths in a hundredth
-abbrev pub padUnits : ℕ
-padUnits = 10
+abbrev pub perHundredth : ℕ
+perHundredth = 10
 
 -- the refusal 'key': a lap outside its ranges
 abbrev pub keyRefusal : ℕ
@@ -84,7 +84,7 @@ lapAt key = record { difference = floorDiv key entries; entry = floorRest key en
 
 -- "d is r divided by 10 with the fraction dropped"
 unfoldable pub padDifference : ℤ → ℤ
-padDifference r = quotZ r (pos padUnits)
+padDifference r = quotZ r (pos perHundredth)
 
 -- ---- answers in 01's terms
 

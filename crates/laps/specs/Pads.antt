@@ -4,17 +4,22 @@ use mathlib.Core.Bool.{true}
 use Prim.Native.Nat.{ℕ, zero, suc, _/_}
 use native.Mathlib.Omega.{arith}
 use lib.IntN.{ℤ, pos, negsuc, negℤ, natAbs}
-use Rattle.laps.specs.Laps.{padInRange, padDifference, padUnits, differenceInRange}
-use Rattle.laps.specs.Ranges.{says-pad, says-difference}
+use Rattle.laps.specs.Laps.{gives, padInRange, padDifference, perHundredth, differenceInRange, differenceOfPad}
+use Rattle.laps.specs.Ranges.{says-pad, says-difference, chosen}
 
-pub fraction-dropped : (r : ℤ) → natAbs (padDifference r) ≡ natAbs r / padUnits
+-- as far from zero as the report, without the last digit
+pub fraction-dropped : (r : ℤ) → natAbs (padDifference r) ≡ natAbs r / perHundredth
 unfolding padDifference
 fraction-dropped (pos n) = refl
-fraction-dropped (negsuc n) = size-minus (suc n / padUnits)
+fraction-dropped (negsuc n) = size-minus (suc n / perHundredth)
   where
     size-minus : (q : ℕ) → natAbs (negℤ (pos q)) ≡ q
     size-minus zero = refl
     size-minus (suc q) = refl
 
-pub pad-is-difference : (r : ℤ) → padInRange r ≡ true → differenceInRange (padDifference r) ≡ true
-pad-is-difference r h = says-difference (padDifference r) .back (omega (arith, says-pad r .out h, fraction-dropped r))
+-- the difference that a pad's report is given, a lap may have
+pub pad-is-difference : (r d : ℤ) → differenceOfPad r ≡ gives d → differenceInRange d ≡ true
+unfolding differenceOfPad
+pad-is-difference r d given =
+    let passed = chosen (padInRange r) (padDifference r) d given in
+    rw (← passed .1) (says-difference (padDifference r) .back (omega (arith, says-pad r .out (passed .0), fraction-dropped r)))

@@ -1,40 +1,47 @@
-// A lap as one key, and back.
+// A lap's difference and entry as one key, and back; and the difference that a pad reports.
 ghost use mathlib.Core.Path.{_≡_};
 ghost use Rattle.laps.specs.Laps.{between, differenceInRange, lapInRange, lapAt, toldKey, toldLap, toldPad, keyOfLap, lapOfKey, differenceOfPad};
 
-// Differences from par, in hundredths of a second.
+// The least difference from par, in hundredths of a second.
 const LEAST_DIFFERENCE: i32 = -1000000;
 
+// The greatest.
 const MOST_DIFFERENCE: i32 = 1000000;
 
-// Entry numbers, and the keys to a difference.
+// Entry numbers start at 0.
 const LAST_ENTRY: u32 = 1023;
 
+// Keys to a difference.
 const ENTRIES: i32 = 1024;
 
-// What a pad reports, in thousandths.
+// The least that a pad reports, in thousandths of a second.
 const LEAST_PAD: i32 = -10000000;
 
+// The greatest.
 const MOST_PAD: i32 = 10000000;
 
-const PAD_UNITS: i32 = 10;
+// Thousandths in a hundredth.
+const PER_HUNDREDTH: i32 = 10;
 
-// In hundredths from par, and the entry number.
+// A lap: hundredths from par, and the entry number.
 pub struct Lap {
     pub difference: i32,
     pub entry: u32,
 }
 
+// The key of a lap, or refusal 6.
 pub enum KeyAnswer {
     Key(i32),
     Refused,
 }
 
+// The lap of a key, or refusal 6.
 pub enum LapAnswer {
     Lap(Lap),
     Refused,
 }
 
+// The difference of a pad's report, or refusal 6.
 pub enum PadAnswer {
     Difference(i32),
     Refused,
@@ -58,7 +65,6 @@ fn lap_in_range(difference: i32, entry: u32) -> bool
     difference_in_range(difference) && entry <= LAST_ENTRY
 }
 
-// The key of a lap.
 pub fn key_of_lap(difference: i32, entry: u32) -> KeyAnswer
     ensures { λ r. ⌜ toldKey r ≡ keyOfLap difference entry ⌝ }
 {
@@ -90,7 +96,6 @@ fn lap_at(key: i32) -> Lap
     }
 }
 
-// The lap of a key.
 pub fn lap_of_key(key: i32) -> LapAnswer
     ensures { λ r. ⌜ toldLap r ≡ lapOfKey key ⌝ }
 {
@@ -102,12 +107,12 @@ pub fn lap_of_key(key: i32) -> LapAnswer
     }
 }
 
-// The difference that a pad's report stands for.
+// The machine's `/` drops the fraction.
 pub fn difference_of_pad(thousandths: i32) -> PadAnswer
     ensures { λ r. ⌜ toldPad r ≡ differenceOfPad thousandths ⌝ }
 {
     if lies_between(LEAST_PAD, thousandths, MOST_PAD) {
-        let difference = thousandths / PAD_UNITS;
+        let difference = thousandths / PER_HUNDREDTH;
         PadAnswer::Difference(difference)
     } else {
         PadAnswer::Refused

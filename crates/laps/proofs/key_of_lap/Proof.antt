@@ -1,6 +1,6 @@
 -- `laps::key_of_lap` gives the definition's answer: within the ranges product and sum fit 32 bits, so the machine's key is the key.
 use mathlib.Core.Path.{_≡_, sym, _∙_}
-use mathlib.Core.Bool.{true, false}
+use mathlib.Core.Bool.{true}
 use borrow.Author.Needs.{needs}
 use mir.Syntax.{w32}
 use mir.ValLaws.{toZ-ofZ}
@@ -10,10 +10,12 @@ use Rattle.laps.proofs.Keys.{product-fits, entry-fits, key-fits, machin
 use Rattle.laps.proofs.key_of_lap.Statement.{statement}
 use Rattle.laps.proofs.key_of_lap.Tie as tie
 
--- what the test showed, of the lap itself
+-- what the test is of
+tested : (c : tie.After-lap-in-range) → c .lap-in-range .result ≡ lapInRange (c .before .args .difference) (c .before .args .entry)
+tested c = rw (toZ-ofZ w32 _ (c .before .fits .difference)) at (c .lap-in-range .ensures)
+
 inside : (c : tie.Then1) → lapInRange (c .before .before .args .difference) (c .before .before .args .entry) ≡ true
-inside c =
-    rw (toZ-ofZ w32 (c .before .before .args .difference) (c .before .before .fits .difference)) at (sym (c .before .lap-in-range .ensures) ∙ c .if1 .taken)
+inside c = sym (tested (c .before)) ∙ c .if1 .taken
 
 lap-in-range-requires : tie.Need-lap-in-range-requires
 lap-in-range-requires c κs = search needs
@@ -36,11 +38,7 @@ returns c =
 
 returns-2 : tie.Need-returns-2
 unfolding toldKey keyOfLap
-returns-2 c =
-    let d = c .before .before .args .difference in
-    let e = c .before .before .args .entry in
-    let outside : lapInRange d e ≡ false = rw (toZ-ofZ w32 d (c .before .before .fits .difference)) at (sym (c .before .lap-in-range .ensures) ∙ c .if1 .left) in
-    sym (pick-false (lapInRange d e) _ _ outside)
+returns-2 c = sym (pick-false _ _ _ (sym (tested (c .before)) ∙ c .if1 .left))
 
 pub key-of-lap-spec : {M : Type 1} → statement M
 key-of-lap-spec = tie.close (tie.spec lap-in-range-requires mul-key cast-key add-key returns returns-2)
