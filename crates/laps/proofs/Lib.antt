@@ -1,0 +1,2 @@
+pub mod Quotients
+pub mod Keys

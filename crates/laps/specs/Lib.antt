@@ -1,0 +1,8 @@
+pub mod Laps
+pub mod Examples
+pub mod Outcomes
+pub mod Ranges
+pub mod Floor
+pub mod Inverse
+pub mod Order
+pub mod Pads
