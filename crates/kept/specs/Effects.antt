@@ -74,7 +74,7 @@ same-or-other k Q here there n = elim (decLe n k) [
 
 -- ---- a child word
 
-kind-one : (ns : List ℕ) (x : NodeNo) → isInternal ns x ≡ true → fixedAt ns x .kind ≡ 1
+pub kind-one : (ns : List ℕ) (x : NodeNo) → isInternal ns x ≡ true → fixedAt ns x .kind ≡ 1
 unfolding fixedAt isInternal
 kind-one ns x e = eqb-true _ _ e
 
@@ -212,9 +212,9 @@ module _ (t : Totals) (ns : List ℕ) (u rows kind : ℕ) (k : Rank) (q : Phase)
 
 -- with a record more, unfilled as the dummy is
 module _ (s : Tables) (h : TablesSound s) (k : ℕ) (q : Phase) (room : Room s k q) where
-  grown : Grows (s .totals) (taken (s .totals) k)
+  pub grows-taken : Grows (s .totals) (taken (s .totals) k)
   unfolding taken
-  grown = record { n = refl; m = refl; p = refl; nodes = omega arith; records = omega arith; counter = omega arith }
+  grows-taken = record { n = refl; m = refl; p = refl; nodes = omega arith; records = omega arith; counter = omega arith }
 
   used-taken : UsedSound (taken (s .totals) k)
   unfolding taken
@@ -243,18 +243,18 @@ module _ (s : Tables) (h : TablesSound s) (k : ℕ) (q : Phase) (room : Room s k
     nodes = nodes;
     records = λ n z l. same-or-other (s .totals .records) (λ n. 0 < n → n < s .totals .records + 1 → RecordSound (taken (s .totals) k) ns (fillingAt (newRecord (s .records) (recordNo (s .totals .records)) aborted unfilled) (recordNo n)) (stateAt (newRecord (s .records) (recordNo (s .totals .records)) aborted unfilled) (recordNo n)))
         (λ z l. rw (filling-newRecord-same (s .records) (recordNo (s .totals .records)) aborted unfilled (s .totals .m) (h .record-rows) at-record, state-newRecord-same (s .records) (recordNo (s .totals .records)) aborted unfilled (s .totals .m) (h .record-rows) at-record) (record-unfilled ns))
-        (λ n ne z l. rw (filling-newRecord-record (s .records) (recordNo (s .totals .records)) aborted unfilled (recordNo n) ne, state-newRecord-record (s .records) (recordNo (s .totals .records)) aborted unfilled (recordNo n) ne) (record-later grown keeps (h .records n z (omega arith))))
+        (λ n ne z l. rw (filling-newRecord-record (s .records) (recordNo (s .totals .records)) aborted unfilled (recordNo n) ne, state-newRecord-record (s .records) (recordNo (s .totals .records)) aborted unfilled (recordNo n) ne) (record-later grows-taken keeps (h .records n z (omega arith))))
         n z l;
   }
 
   pub later-taken : (ns : List ℕ) → Later s (tables (taken (s .totals) k) ns (takenRecord (s .records) (s .totals .records)))
   unfolding takenRecord
-  later-taken ns = record { totals = grown; counts = λ r l c. count-of (newRecord (s .records) (recordNo (s .totals .records)) aborted unfilled) r ∙ ap (λ (f : Filling). f .count) (filling-newRecord-record (s .records) (recordNo (s .totals .records)) aborted unfilled r (λ e. let z : r .0 ≡ s .totals .records = e in omega arith)) ∙ sym (count-of (s .records) r) }
+  later-taken ns = record { totals = grows-taken; counts = λ r l c. count-of (newRecord (s .records) (recordNo (s .totals .records)) aborted unfilled) r ∙ ap (λ (f : Filling). f .count) (filling-newRecord-record (s .records) (recordNo (s .totals .records)) aborted unfilled r (λ e. let z : r .0 ≡ s .totals .records = e in omega arith)) ∙ sym (count-of (s .records) r) }
 
 -- lines 161 to 163
 module _ (s : Tables) (h : TablesSound s) (k : Key) (l : NodeNo) (q : Phase) (room : Room s 3 q) (used : l .0 < s .totals .nodes) where
-  grown3 : Grows (s .totals) (taken (s .totals) 3)
-  grown3 = grown s h 3 q room
+  grows-three : Grows (s .totals) (taken (s .totals) 3)
+  grows-three = grows-taken s h 3 q room
 
   leaf-sound : (n : ℕ) (b : Rank) → RankSound b → NodeSound (taken (s .totals) 3) n (record { kind = 0; rank = b; phase = q .0; prev = Absent }) root root freshWord
   unfolding taken
@@ -289,7 +289,7 @@ module _ (s : Tables) (h : TablesSound s) (k : Key) (l : NodeNo) (q : Phase) (ro
 
   nodes-one : NodesSound (taken (s .totals) 3) one (s .totals .nodes + 1)
   unfolding one
-  nodes-one = rw (add-one (s .totals .nodes)) (nodes-new (taken (s .totals) 3) (s .nodes) (s .totals .nodes) (s .totals .n) 0 (finite k) q Absent root root (h .node-rows) (omega (arith, room .nodes)) (λ n i. node-later grown3 (h .nodes n i)) (leaf-sound _ (finite k) finite-sound))
+  nodes-one = rw (add-one (s .totals .nodes)) (nodes-new (taken (s .totals) 3) (s .nodes) (s .totals .nodes) (s .totals .n) 0 (finite k) q Absent root root (h .node-rows) (omega (arith, room .nodes)) (λ n i. node-later grows-three (h .nodes n i)) (leaf-sound _ (finite k) finite-sound))
 
   nodes-two : NodesSound (taken (s .totals) 3) two (s .totals .nodes + 2)
   unfolding two
@@ -332,12 +332,12 @@ module _ (s : Tables) (h : TablesSound s) (sibling p : NodeNo) (q : Phase) (room
   copy-kept = (
     rows-newNode (s .nodes) (node (s .totals .nodes)) _ _ q (At p) root root (s .totals .n) (h .node-rows),
     keeps-new (taken (s .totals) 1) (s .nodes) (s .totals .nodes) (s .totals .n) _ _ q (At p) root root (h .node-rows) (omega (arith, room .nodes)),
-    rw (add-one (s .totals .nodes)) (nodes-new (taken (s .totals) 1) (s .nodes) (s .totals .nodes) (s .totals .n) _ _ q (At p) root root (h .node-rows) (omega (arith, room .nodes)) (λ n i. node-later (grown s h 1 q room) (h .nodes n i)) copy-sound),
+    rw (add-one (s .totals .nodes)) (nodes-new (taken (s .totals) 1) (s .nodes) (s .totals .nodes) (s .totals .n) _ _ q (At p) root root (h .node-rows) (omega (arith, room .nodes)) (λ n i. node-later (grows-taken s h 1 q room) (h .nodes n i)) copy-sound),
   )
 
-grown-bump : (s : Tables) → Grows (s .totals) (bumped (s .totals))
+pub grows-bump : (s : Tables) → Grows (s .totals) (bumped (s .totals))
 unfolding bumped
-grown-bump s = record { n = refl; m = refl; p = refl; nodes = omega arith; records = omega arith; counter = omega arith }
+grows-bump s = record { n = refl; m = refl; p = refl; nodes = omega arith; records = omega arith; counter = omega arith }
 
 -- ---- every effect
 
@@ -353,8 +353,8 @@ pub effect-keeps : (e : Effect) (s : Tables) → TablesSound s → Fits e s → 
 unfolding apply
 effect-keeps effect.Nothing s h f = record { sound = h; later = later-same s (s .nodes); fixed = λ y l. refl }
 effect-keeps effect.Bump s h f = unfold bumped in record {
-  sound = record { node-rows = h .node-rows; record-rows = h .record-rows; used = record { least-nodes = h .used .least-nodes; most-nodes = h .used .most-nodes; least-records = h .used .least-records; most-records = h .used .most-records; counter = omega arith }; root-row = h .root-row; dummy-row = h .dummy-row; dummy-state = h .dummy-state; nodes = λ n l. node-later (grown-bump s) (h .nodes n l); records = λ n z l. record-later (grown-bump s) (λ y k. refl) (h .records n z l) };
-  later = record { totals = grown-bump s; counts = λ r l c. refl };
+  sound = record { node-rows = h .node-rows; record-rows = h .record-rows; used = record { least-nodes = h .used .least-nodes; most-nodes = h .used .most-nodes; least-records = h .used .least-records; most-records = h .used .most-records; counter = omega arith }; root-row = h .root-row; dummy-row = h .dummy-row; dummy-state = h .dummy-state; nodes = λ n l. node-later (grows-bump s) (h .nodes n l); records = λ n z l. record-later (grows-bump s) (λ y k. refl) (h .records n z l) };
+  later = record { totals = grows-bump s; counts = λ r l c. refl };
   fixed = λ y l. refl;
 }
 effect-keeps (effect.TakeThree k l q) s h f =

@@ -1,2 +1,6 @@
 pub mod Later
 pub mod Effects
+pub mod Good
+pub mod Helping
+pub mod Attempts
+pub mod Scanning

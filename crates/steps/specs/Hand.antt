@@ -93,6 +93,6 @@ abbrev pub helps : RecordNo → Decision
 helps r = goes (holding r) (place.Help Counter111 Again)
 
 -- go on with a node that is there, or the turn is crooked
-abbrev pub through : MaybeNode → (NodeNo → Decision) → Decision
+unfoldable pub through : MaybeNode → (NodeNo → Decision) → Decision
 through Absent f = decision.Crooked
 through (At x) f = f x
