@@ -4,3 +4,4 @@ pub mod Good
 pub mod Helping
 pub mod Attempts
 pub mod Scanning
+pub mod Kept
