@@ -1,0 +1,50 @@
+// The tables: rows of words behind named fields, and fresh ones.
+mod sizes; // the sizes of 01 and the widths of rows
+mod words; // one word, one row
+mod keys; // keys as numbers, and back
+mod nodes; // a node's fields
+mod records; // a record's fields
+mod versions; // READCHILD
+
+pub use keys::key_of;
+pub use keys::number_of;
+pub use nodes::child_at;
+pub use nodes::is_internal;
+pub use nodes::key_at;
+pub use nodes::key_value;
+pub use nodes::kind_at;
+pub use nodes::new_node;
+pub use nodes::phase_at;
+pub use nodes::prev_at;
+pub use nodes::rank_at;
+pub use nodes::same_node;
+pub use nodes::same_record;
+pub use nodes::same_update;
+pub use nodes::set_child;
+pub use nodes::set_update;
+pub use nodes::update_at;
+pub use records::count_at;
+pub use records::entry_at;
+pub use records::fillable;
+pub use records::helpable;
+pub use records::in_progress;
+pub use records::new_child_at;
+pub use records::new_record;
+pub use records::old_child_at;
+pub use records::par_at;
+pub use records::seq_at;
+pub use records::set_state;
+pub use records::state_at;
+pub use sizes::LAST_PHASE;
+pub use sizes::LEAST_NODES;
+pub use sizes::LEAST_RECORDS;
+pub use sizes::LEAST_WORKERS;
+pub use sizes::MOST_NODES;
+pub use sizes::MOST_RECORDS;
+pub use sizes::MOST_WORKERS;
+pub use sizes::NODE_WIDTH;
+pub use sizes::RECORD_WIDTH;
+pub use versions::as_parent;
+pub use versions::read_child;
+pub use words::get;
+pub use words::put;
