@@ -5,3 +5,4 @@ pub mod Helping
 pub mod Attempts
 pub mod Scanning
 pub mod Kept
+pub mod Fresh
