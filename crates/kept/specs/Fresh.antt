@@ -120,16 +120,20 @@ module _ (n m p : ℕ) (s : World) (sizes : SizesSound n m p) (node-room : HasRo
     dummy-row = filling-newRecord-same _ dummy aborted unfilled m rows-cleared (omega (arith, sizes .least-m));
     dummy-state = state-newRecord-same _ dummy aborted unfilled m rows-cleared (omega (arith, sizes .least-m));
     nodes = nodes-fresh;
-    records = λ k z l. absurd (omega arith) }
+    records = λ k z l. absurd (omega arith);
+  }
 
   -- ---- the workers
 
   idle-sound : (rs : List ℕ) (pending : ℕ → NodeNo) → WorkerSound t rs pending idle
   unfolding t
   idle-sound rs pending = record {
-    most-pending = omega arith; most-found = omega arith; pending-used = λ i l. absurd (omega arith);
+    most-pending = omega arith;
+    most-found = omega arith;
+    pending-used = λ i l. absurd (omega arith);
     hand = record { seq = omega arith; gp = tt; p = omega arith; l = omega arith; gpup = word-sound; pup = word-sound; lup = word-sound; sup = word-sound; up = word-sound; sibling = omega arith; made = omega arith; info = omega arith };
-    place = tt }
+    place = tt;
+  }
 
   pub world-fresh : Sound (freshWorld n m p s)
   unfolding freshWorld freshBoard t
@@ -138,7 +142,8 @@ module _ (n m p : ℕ) (s : World) (sizes : SizesSound n m p) (node-room : HasRo
     pending-lent = rw (length-cleared (p * n) 0 (s .pending) pending-room) pending-room;
     found-lent = rw (length-cleared (p * n) (lib.IntN.pos 0) (s .found) found-room) found-room;
     shared = shared-fresh;
-    workers = λ w l. unfold workerAt in rw (getD-cleared p idle (s .board .workers) w l) (idle-sound _ _) }
+    workers = λ w l. unfold workerAt in rw (getD-cleared p idle (s .board .workers) w l) (idle-sound _ _);
+  }
 
 -- made for sizes in range in tables lent long enough
 pub fresh-sound : (n m p : ℕ) (s : World) → (sizesOk n m p && lentOk n m p s) ≡ true → soundOf (freshOf n m p s .world) ≡ true
