@@ -1,14 +1,13 @@
 -- Reading a byte at a time: what the first byte decides, and what holds of every number that reads. Over any width and number of groups.
-use mathlib.Core.Path.{_≡_, refl, sym, ap, subst, _∙_}
-use mathlib.Core.List.{List, [], _∷_, _++_}
-use Prim.Native.Nat.{ℕ, zero, suc, _+_, _*_, _-_, _/_, _%_, _^_, _≤_, _<_}
-use native.Mathlib.Numerals.{add-one}
+use mathlib.Core.Path.{_≡_, refl, subst}
+use mathlib.Core.List.{List, [], _∷_}
+use Prim.Native.Nat.{ℕ, zero, suc, _+_, _*_, _-_, _^_, _≤_, _<_}
 use native.Mathlib.Omega.{arith}
 use lib.Dec.{ltb, eqb}
 use lib.ListN.{length, getD, take, drop}
 use lib.Seq.{take-all}
 use borrow.Author.Tests.{ltb-true, ltb-false, lt-ltb, le-ltb, eq-eqb, ne-eqb, eqb-false}
-use Rattle.laws.specs.Choice.{pick, fork, pick-true, pick-false}
+use Rattle.laws.specs.Choice.{fork, pick-true, pick-false}
 use Rattle.groups.specs.Format.{group, mostGroups, held, joined, readUpTo, reading}
 use Rattle.groups.specs.declared.Fault.{Fault}
 use Rattle.groups.specs.declared.Fault.the-variants.{CutShort, NotShortest, TooLarge}

@@ -1,7 +1,7 @@
 -- Every signed number of a width has one code of that width, and every number of the width is the code of exactly one. Over any width.
 use mathlib.Core.Path.{_≡_, refl, sym, ap, _∙_}
 use mathlib.Core.List.{List, _++_}
-use Prim.Native.Nat.{ℕ, zero, suc, _+_, _*_, _-_, _/_, _%_, _^_, _≤_, _<_}
+use Prim.Native.Nat.{ℕ, suc, _+_, _*_, _-_, _/_, _%_}
 use native.Mathlib.Omega.{arith}
 use lib.Dec.{eqb}
 use lib.IntN.{ℤ, pos, negsuc, _*ℤ_, _-ℤ_}
@@ -10,7 +10,7 @@ use mir.Syntax.{Width, w32}
 use mir.Val.{Fits, SFits}
 use mir.ValLaws.{pow-bits}
 use borrow.Author.Tests.{le-ltb, eq-eqb, ne-eqb, eqb-true, eqb-false}
-use Rattle.laws.specs.Choice.{pick, fork, pick-true, pick-false}
+use Rattle.laws.specs.Choice.{fork, pick-true, pick-false}
 use Rattle.laws.specs.Parts.{Below}
 use Rattle.groups.specs.Format.{codeOf, signedOf, decoded, bits, groupsOf, readOf, readSignedOf}
 use Rattle.groups.specs.RoundTrip.{written-reads, read-is-written}

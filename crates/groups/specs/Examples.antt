@@ -1,10 +1,9 @@
 -- P11 and P12 of 01, with the faults that stand beside them, computed from the definitions.
 use mathlib.Core.Path.{_≡_, refl}
-use mathlib.Core.List.{List, [], _∷_}
-use Prim.Native.Nat.{ℕ}
-use lib.IntN.{ℤ, pos, negsuc}
+use mathlib.Core.List.{[], _∷_}
+use lib.IntN.{pos, negsuc}
 use Rattle.laws.specs.Choice.{pick}
-use Rattle.groups.specs.Format.{spelling, mostGroups, spelled, held, joined, readUpTo, reading, codeOf, signedOf, groupsOf, readOf}
+use Rattle.groups.specs.Format.{spelling, mostGroups, spelled, held, joined, readUpTo, reading, codeOf, groupsOf, readOf}
 use Rattle.groups.specs.declared.Fault.the-variants.{CutShort, NotShortest, TooLong, TooLarge}
 use Rattle.groups.specs.declared.Reading.the-variants.{Number, Faulty}
 

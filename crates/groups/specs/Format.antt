@@ -1,7 +1,6 @@
--- Numbers in groups of seven bits, as 01 ("The schedule") has them: how a number is spelled, what bytes read as, what a writing leaves.
-use mathlib.Core.Path.{_≡_}
-use mathlib.Core.Bool.{Bool}
-use mathlib.Core.List.{List, [], _∷_, _++_}
+-- Numbers in groups of seven bits (01, "The schedule"): how a number is spelled, what bytes read as, what a writing leaves, how signed
+-- numbers are sent. Over any width in bits; the schedule's 32 stand at the end.
+use mathlib.Core.List.{List, [], _∷_}
 use Prim.Native.Nat.{ℕ, zero, suc, _+_, _*_, _-_, _/_, _%_, _^_}
 use lib.Dec.{ltb, leb, eqb}
 use lib.IntN.{ℤ, pos, negsuc}
@@ -32,30 +31,32 @@ spelling (suc k) n = let more = spelling k (n / group) in pick (ltb n group) (n 
 unfoldable pub mostGroups : ℕ → ℕ
 mostGroups width = suc ((width - 1) / 7)
 
+-- a number of so many bits
 unfoldable pub spelled : ℕ → ℕ → List ℕ
 spelled width n = spelling (mostGroups width) n
 
 -- ---- reading
 
--- a value that so many bits hold
+-- a value that so many bits hold, "too large" if they do not
 unfoldable pub held : ℕ → ℕ → ℕ → Reading
 held width value taken = pick (ltb value (2 ^ width)) (Number value taken) (Faulty TooLarge)
 
--- a group's byte, and what the bytes after it read as; "shortest form only": a number that follows is not 0
+-- a group with what was read after it; "shortest form only": that is not 0
 unfoldable pub joined : ℕ → ℕ → Reading → Reading
 joined width byte (Number above taken) = pick (eqb above 0) (Faulty NotShortest) (held width (byte - group + group * above) (taken + 1))
 joined width byte (Faulty fault) = Faulty fault
 
--- what stands at the front of the bytes, if it takes at most k groups
+-- the number at the front of the bytes: "too long" if it takes more than k groups, "cut short" if the bytes end in it
 unfoldable pub readUpTo : ℕ → ℕ → List ℕ → Reading
 readUpTo width zero s = Faulty TooLong
 readUpTo width (suc k) [] = Faulty CutShort
 readUpTo width (suc k) (byte ∷ s) = let more = readUpTo width k s in pick (ltb byte group) (held width byte 1) (joined width byte more)
 
+-- a number of so many bits
 unfoldable pub reading : ℕ → List ℕ → Reading
 reading width s = readUpTo width (mostGroups width) s
 
--- the fault of a reading that is one
+-- the fault of a reading; there is none in a number, and the first stands for it
 unfoldable pub faultOf : Reading → Fault
 faultOf (Number value taken) = CutShort
 faultOf (Faulty fault) = fault
@@ -67,7 +68,7 @@ pub record Left : Type 0 where
   pub answer : Written
   pub buffer : List ℕ
 
-unfoldable pub left : Written → List ℕ → Left
+abbrev pub left : Written → List ℕ → Left
 left answer buffer = record { answer = answer; buffer = buffer }
 
 -- bytes written at a place of a buffer, or the buffer as it was where it is too short for them
@@ -85,7 +86,7 @@ codeOf (negsuc m) = 2 * m + 1
 unfoldable pub signedOf : ℕ → ℤ
 signedOf code = pick (eqb (code % 2) 0) (pos (code / 2)) (negsuc (code / 2))
 
--- a reading whose number is a code
+-- "Keys, a and b are signed": what was read is a code
 unfoldable pub decoded : Reading → SignedReading
 decoded (Number code taken) = signed.Number (signedOf code) taken
 decoded (Faulty fault) = signed.Faulty fault

@@ -5,16 +5,12 @@ use Prim.Native.Nat.{ℕ}
 use lib.IntN.{ℤ}
 use lib.ListN.{length}
 use Rattle.laws.specs.Outcomes.{OneOutcome, one-outcome}
-use Rattle.groups.specs.Format.{Left, groupsOf, readOf, faultOf, writeOf, codeOf, signedOf, readSignedOf, writeSignedOf}
-use Rattle.groups.specs.declared.Fault.{Fault}
+use Rattle.groups.specs.Format.{Left, groupsOf, readOf, writeOf, codeOf, signedOf, readSignedOf, writeSignedOf}
 use Rattle.groups.specs.declared.Reading.{Reading}
 use Rattle.groups.specs.declared.SignedReading.{SignedReading}
 
 pub length-once : OneOutcome (λ (n r : ℕ). r ≡ length (groupsOf n))
 length-once = one-outcome (λ n. length (groupsOf n))
-
-pub fault-of-once : OneOutcome (λ (r : Reading) (f : Fault). f ≡ faultOf r)
-fault-of-once = one-outcome faultOf
 
 pub read-once : OneOutcome (λ (s : List ℕ) (r : Reading). r ≡ readOf s)
 read-once = one-outcome readOf

@@ -1,15 +1,14 @@
 -- The spelling of a number: group by group, how long it is, and that more room than it needs changes nothing. Over any number of groups.
 use mathlib.Core.Path.{_≡_, refl, sym, ap, _∙_}
-use mathlib.Core.Logic.{_↔_}
 use mathlib.Core.List.{List, [], _∷_}
 use Prim.Native.Nat.{ℕ, zero, suc, _+_, _*_, _-_, _/_, _%_, _^_, _≤_, _<_}
-use native.Mathlib.Nat.{pow-suc, div-lt-iff-lt-mul, le-div-iff-mul-le, one-le-pow}
+use native.Mathlib.Nat.{pow-suc, one-le-pow}
 use native.Mathlib.Omega.{arith}
 use lib.Dec.{ltb}
 use lib.Pow.{pow-add, pow-mono}
 use lib.ListN.{length}
 use borrow.Author.Tests.{ltb-true, ltb-false, lt-ltb, le-ltb}
-use Rattle.laws.specs.Choice.{pick, fork, pick-true, pick-false}
+use Rattle.laws.specs.Choice.{fork, pick-true, pick-false}
 use Rattle.laws.specs.Parts.{Below, below-none, below-cons}
 use Rattle.groups.specs.Format.{group, spelling, mostGroups, spelled, bits, groupsOf}
 

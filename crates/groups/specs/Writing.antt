@@ -1,14 +1,13 @@
 -- What a writing leaves: all the bytes at their place with the rest of the buffer as it was, or the whole buffer as it was. Over any width.
-use mathlib.Core.Path.{_≡_, sym, ap, _∙_}
+use mathlib.Core.Path.{_≡_, ap, _∙_}
 use mathlib.Core.List.{List, _++_, append-assoc}
 use Prim.Native.Nat.{ℕ, _+_, _^_, _≤_, _<_}
 use native.Mathlib.Omega.{arith}
-use lib.Dec.{leb}
 use lib.ListN.{length, take, drop}
 use lib.Seq.{sets, sets-eq, drop-at, length-take-le}
 use borrow.Author.Tests.{le-leb, lt-leb}
-use Rattle.laws.specs.Choice.{pick, pick-true, pick-false}
-use Rattle.groups.specs.Format.{Left, left, put, spelled, reading}
+use Rattle.laws.specs.Choice.{pick-true, pick-false}
+use Rattle.groups.specs.Format.{left, put, spelled, reading}
 use Rattle.groups.specs.RoundTrip.{written-reads}
 use Rattle.groups.specs.declared.Reading.the-variants.{Number}
 use Rattle.groups.specs.declared.Written.the-variants.{End, TooShort}

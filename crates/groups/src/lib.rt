@@ -18,18 +18,20 @@ ghost use Rattle.groups.specs.Format.{
   writeSignedOf,
 };
 
-// A group holds numbers below this; so much more in its byte says that another follows.
+// A group holds a number below this.
 const GROUP: u32 = 128;
 
+// A byte from here on has its top bit set: another group follows.
 const FOLLOWS: u8 = 128;
 
-// The powers of GROUP that 32 bits hold: a number below one of them takes no more groups than its name says.
+// The powers of GROUP: a number below one of them takes no more groups than its name says.
 const TWO_GROUPS: u32 = 16_384;
 
 const THREE_GROUPS: u32 = 2_097_152;
 
 const FOUR_GROUPS: u32 = 268_435_456;
 
+// No number of 32 bits takes more.
 const MOST_GROUPS: usize = 5;
 
 // The largest number that can stand above a group within 32 bits.
@@ -79,8 +81,8 @@ pub fn length(n: u32) -> usize
     MOST_GROUPS
 }
 
-// The fault of a reading that has no number: what a caller hands on.
-pub fn fault_of(r: Reading) -> Fault
+// The fault of a reading that has no number, to be handed on.
+fn fault_of(r: Reading) -> Fault
     ensures { λ f. ⌜ f ≡ faultOf r ⌝ }
 {
     match r {

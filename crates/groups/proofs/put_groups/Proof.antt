@@ -1,6 +1,6 @@
 -- `groups::put_groups` meets its contract. The loop's invariant: what is left, written from the place reached, gives what the whole
 -- number does, and there is room for it. The measure is what is left.
-use Prim.Native.Nat.{ℕ, _+_, _%_, _/_, _^_, _≤_, _<_}
+use Prim.Native.Nat.{_+_, _^_, _≤_, _<_}
 use mathlib.Core.Path.{_≡_, refl, ap}
 use native.Mathlib.Numerals.{add-one}
 use native.Mathlib.Omega.{arith}

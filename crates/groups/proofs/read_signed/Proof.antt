@@ -1,5 +1,4 @@
 -- `groups::read_signed` meets its contract: a fault is handed on, and a number is taken for a code.
-use mathlib.Core.Path.{sym}
 use mir.Syntax.{w32}
 use mir.ValLaws.{toZ-ofZ}
 use Rattle.groups.specs.Format.{decoded, faultOf}

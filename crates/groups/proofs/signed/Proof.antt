@@ -1,10 +1,10 @@
 -- `groups::signed` meets its contract: half the code is within 31 bits, and is the number or what is taken from −1.
-use mathlib.Core.Path.{_≡_, sym, _∙_}
+use mathlib.Core.Path.{_≡_, sym, subst⁻¹, _∙_}
 use native.Mathlib.Omega.{arith}
 use Prim.Native.Nat.{_/_}
-use lib.IntN.{pos, negsuc, _-ℤ_}
+use lib.IntN.{negsuc, _-ℤ_}
 use mir.Syntax.{w32}
-use mir.Val.{toZ}
+use mir.Val.{toZ, SFits}
 use mir.ValLaws.{toZ-ofZ, toZ-pos}
 use borrow.Author.Needs.{needs}
 use Rattle.groups.specs.Codes.{even-code, odd-code}
@@ -22,7 +22,7 @@ returns : tie.Need-returns
 returns c = toZ-pos w32 (c .before .args .c / 2) (omega arith) ∙ sym (even-code _ (c .if1 .taken))
 
 sub-result : tie.Need-sub-result
-sub-result c = rw (turned c) (record { sfits = omega arith })
+sub-result c = subst⁻¹ (SFits w32) (turned c) (record { sfits = omega arith })
 
 returns-2 : tie.Need-returns-2
 returns-2 c = rw (turned c, toZ-ofZ w32 (negsuc (c .before .args .c / 2)) (record { sfits = omega arith })) (sym (odd-code _ (c .if1 .left)))
