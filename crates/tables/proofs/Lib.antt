@@ -1,3 +1,4 @@
 pub mod Places
 pub mod Walks
 pub mod Signs
+pub mod Clears
