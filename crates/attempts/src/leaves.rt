@@ -36,13 +36,25 @@ fn validated(totals: Totals, nodes: &[u32], kind: Kind, k: Key, v: Locals) -> De
     let present = key == k.0 as u64;
     match kind {
         Kind::Insert => {
-            if present { hand::say(Answer::No) } else { take_three(totals, k, v) }
+            if present {
+                hand::say(Answer::No)
+            } else {
+                take_three(totals, k, v)
+            }
         }
         Kind::Delete => {
-            if present { reaches182(v, gp) } else { hand::say(Answer::No) }
+            if present {
+                reaches182(v, gp)
+            } else {
+                hand::say(Answer::No)
+            }
         }
         Kind::Find => {
-            if present { hand::say(Answer::Yes) } else { hand::say(Answer::No) }
+            if present {
+                hand::say(Answer::Yes)
+            } else {
+                hand::say(Answer::No)
+            }
         }
     }
 }

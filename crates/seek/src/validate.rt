@@ -40,7 +40,11 @@ fn child57(nodes: &[u32], parent: MaybeNode, child: MaybeNode, left: bool) -> Li
         return LinkMove::Crooked;
     };
     let newest = tables::child_at(nodes, x, left);
-    if tables::same_node(newest, c) { LinkMove::Holds } else { LinkMove::Fails }
+    if tables::same_node(newest, c) {
+        LinkMove::Holds
+    } else {
+        LinkMove::Fails
+    }
 }
 
 pub fn link_of(

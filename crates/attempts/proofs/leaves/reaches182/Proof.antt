@@ -1,41 +1,31 @@
-use mathlib.Core.Path.{_≡_, refl, sym, ap, _∙_}
-use borrow.Author.Tests.{eq-eqb, ne-eqb, le-leb, lt-leb, lt-ltb, le-ltb}
-use Rattle.steps.specs.Attempt.{reaches182}
-use Rattle.laws.specs.Choice.{pick}
+-- `reaches182` is `reaches182`: gp is there, and the test of the Root chooses.
+use mathlib.Core.Path.{refl}
 use borrow.Author.Needs.{needs}
+use Rattle.laws.specs.Choice.{pick}
+use Rattle.steps.specs.Attempt.{reaches182}
 use Rattle.attempts.proofs.leaves.reaches182.Statement.{statement}
 use Rattle.attempts.proofs.leaves.reaches182.Tie as tie
-use Rattle.attempts.proofs.leaves.reaches182.Reads as reads
-use Rattle.attempts.proofs.leaves.reaches182.Lts as lts
-use Rattle.hand.proofs.go_to.Reads as go-to-reads
-use Rattle.tables.proofs.same_node.Reads as same-node-reads
 
 enum-told : tie.Need-enum-told
 enum-told c = search needs
 
--- src/leaves.rt:21:9
 enum-told-2 : tie.Need-enum-told-2
 enum-told-2 c = search needs
 
--- src/leaves.rt:21:9
 returns : tie.Need-returns
 unfolding reaches182 pick
 returns c = rw (c .enum-told2 .given .1) refl
 
--- src/leaves.rt:23:8
 same-node-requires : tie.Need-same-node-requires
 same-node-requires c κs = search needs
 
--- src/leaves.rt:26:9
 go-to-requires : tie.Need-go-to-requires
 go-to-requires c κs = search needs
 
--- src/leaves.rt:16:1
 returns-2 : tie.Need-returns-2
 unfolding reaches182 pick
 returns-2 c = rw (c .before .before .enum-told .given .1, ← c .before .same-node .ensures, c .if1 .taken) refl
 
--- src/leaves.rt:16:1
 returns-3 : tie.Need-returns-3
 unfolding reaches182 pick
 returns-3 c = rw (c .before .before .before .enum-told .given .1, ← c .before .before .same-node .ensures, c .before .if1 .left) (c .go-to .ensures)

@@ -1,87 +1,63 @@
-use mathlib.Core.Path.{_≡_, refl, sym, ap, _∙_}
-use borrow.Author.Tests.{eq-eqb, ne-eqb, le-leb, lt-leb, lt-ltb, le-ltb}
-use Rattle.steps.specs.Attempt.{validated}
-use Rattle.laws.specs.Choice.{pick}
+-- `validated` is `validated`, kind by kind; whether the key is present chooses.
 use borrow.Author.Needs.{needs}
+use Rattle.laws.specs.Choice.{pick}
+use Rattle.steps.specs.Attempt.{validated}
 use Rattle.attempts.proofs.leaves.validated.Statement.{statement}
 use Rattle.attempts.proofs.leaves.validated.Tie as tie
-use Rattle.attempts.proofs.leaves.validated.Reads as reads
-use Rattle.attempts.proofs.leaves.validated.Lts as lts
-use Rattle.attempts.proofs.leaves.reaches182.Reads as reaches182-reads
-use Rattle.attempts.proofs.taking.take_three.Reads as take-three-reads
-use Rattle.hand.proofs.say.Reads as say-reads
-use Rattle.tables.proofs.key_at.Reads as key-at-reads
 
--- src/leaves.rt:35:9
 key-at-requires : tie.Need-key-at-requires
 key-at-requires c κs = search needs
 
--- src/leaves.rt:36:26
 cast-present : tie.Need-cast-present
 cast-present c = search needs
 
--- src/leaves.rt:39:16
 enum-told : tie.Need-enum-told
 enum-told c = search needs
 
--- src/leaves.rt:39:26
 say-requires : tie.Need-say-requires
 say-requires c κs = search needs
 
--- src/leaves.rt:39:57
 take-three-requires : tie.Need-take-three-requires
 take-three-requires c κs = search needs
 
--- src/leaves.rt:42:16
 enum-told-2 : tie.Need-enum-told-2
 enum-told-2 c = search needs
 
--- src/leaves.rt:42:26
 reaches182-requires : tie.Need-reaches182-requires
 reaches182-requires c κs = search needs
 
--- src/leaves.rt:42:53
 say-requires-2 : tie.Need-say-requires-2
 say-requires-2 c κs = search needs
 
--- src/leaves.rt:45:16
 enum-told-3 : tie.Need-enum-told-3
 enum-told-3 c = search needs
 
--- src/leaves.rt:45:26
 say-requires-3 : tie.Need-say-requires-3
 say-requires-3 c κs = search needs
 
--- src/leaves.rt:45:58
 say-requires-4 : tie.Need-say-requires-4
 say-requires-4 c κs = search needs
 
--- src/leaves.rt:30:1
 returns : tie.Need-returns
 unfolding validated pick
 returns c = rw (c .before .before .enum-told .given .1, ← c .before .before .before .before .before .key-at .ensures, c .before .if1 .taken) (c .say .ensures)
 
--- src/leaves.rt:30:1
 returns-2 : tie.Need-returns-2
 unfolding validated pick
 returns-2 c = rw (c .before .before .enum-told .given .1, ← c .before .before .before .before .before .key-at .ensures, c .before .if1 .left) (c .take-three .ensures)
 
--- src/leaves.rt:30:1
 returns-3 : tie.Need-returns-3
 unfolding validated pick
 returns-3 c = rw (c .before .before .enum-told2 .given .1, ← c .before .before .before .before .before .key-at .ensures, c .before .if2 .taken) (c .reaches182 .ensures)
 
--- src/leaves.rt:30:1
 returns-4 : tie.Need-returns-4
 unfolding validated pick
 returns-4 c = rw (c .before .before .enum-told2 .given .1, ← c .before .before .before .before .before .key-at .ensures, c .before .if2 .left) (c .say2 .ensures)
 
--- src/leaves.rt:30:1
 returns-5 : tie.Need-returns-5
 unfolding validated pick
 returns-5 c = rw (c .before .before .enum-told3 .given .1, ← c .before .before .before .before .before .key-at .ensures, c .before .if3 .taken) (c .say3 .ensures)
 
--- src/leaves.rt:30:1
 returns-6 : tie.Need-returns-6
 unfolding validated pick
 returns-6 c = rw (c .before .before .enum-told3 .given .1, ← c .before .before .before .before .before .key-at .ensures, c .before .if3 .left) (c .say4 .ensures)

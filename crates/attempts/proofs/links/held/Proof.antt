@@ -1,105 +1,75 @@
-use mathlib.Core.Path.{_≡_, refl, sym, ap, _∙_}
-use borrow.Author.Tests.{eq-eqb, ne-eqb, le-leb, lt-leb, lt-ltb, le-ltb}
-use Rattle.steps.specs.Attempt.{held}
-use Rattle.laws.specs.Choice.{pick}
+-- `held` is `held`, call by call; after line 64 the test of the Root chooses.
 use borrow.Author.Needs.{needs}
+use Rattle.laws.specs.Choice.{pick}
+use Rattle.steps.specs.Attempt.{held}
 use Rattle.attempts.proofs.links.held.Statement.{statement}
 use Rattle.attempts.proofs.links.held.Tie as tie
-use Rattle.attempts.proofs.links.held.Reads as reads
-use Rattle.attempts.proofs.links.held.Lts as lts
-use Rattle.attempts.proofs.taking.take_copy.Reads as take-copy-reads
-use Rattle.hand.proofs.go_to.Reads as go-to-reads
-use Rattle.hand.proofs.with_gpup.Reads as with-gpup-reads
-use Rattle.hand.proofs.with_pup.Reads as with-pup-reads
-use Rattle.hand.proofs.with_sup.Reads as with-sup-reads
-use Rattle.tables.proofs.same_node.Reads as same-node-reads
 
--- src/links.rt:24:17
 enum-told : tie.Need-enum-told
 enum-told c = search needs
 
--- src/links.rt:24:17
 with-pup-requires : tie.Need-with-pup-requires
 with-pup-requires c κs = search needs
 
--- src/links.rt:25:16
 same-node-requires : tie.Need-same-node-requires
 same-node-requires c κs = search needs
 
--- src/links.rt:26:17
 go-to-requires : tie.Need-go-to-requires
 go-to-requires c κs = search needs
 
--- src/links.rt:28:17
 go-to-requires-2 : tie.Need-go-to-requires-2
 go-to-requires-2 c κs = search needs
 
--- src/links.rt:31:39
 enum-told-2 : tie.Need-enum-told-2
 enum-told-2 c = search needs
 
--- src/links.rt:31:39
 with-gpup-requires : tie.Need-with-gpup-requires
 with-gpup-requires c κs = search needs
 
--- src/links.rt:31:27
 go-to-requires-3 : tie.Need-go-to-requires-3
 go-to-requires-3 c κs = search needs
 
--- src/links.rt:32:29
 enum-told-3 : tie.Need-enum-told-3
 enum-told-3 c = search needs
 
--- src/links.rt:32:29
 take-copy-requires : tie.Need-take-copy-requires
 take-copy-requires c κs = search needs
 
--- src/links.rt:34:13
 enum-told-4 : tie.Need-enum-told-4
 enum-told-4 c = search needs
 
--- src/links.rt:34:13
 with-sup-requires : tie.Need-with-sup-requires
 with-sup-requires c κs = search needs
 
--- src/links.rt:33:26
 go-to-requires-4 : tie.Need-go-to-requires-4
 go-to-requires-4 c κs = search needs
 
--- src/links.rt:37:42
 enum-told-5 : tie.Need-enum-told-5
 enum-told-5 c = search needs
 
--- src/links.rt:37:27
 go-to-requires-5 : tie.Need-go-to-requires-5
 go-to-requires-5 c κs = search needs
 
--- src/links.rt:17:1
 returns : tie.Need-returns
 unfolding held pick
 returns c = rw (c .before .before .before .before .enum-told .given .1, ← c .before .before .same-node .ensures, c .before .if1 .taken) (rw (c .before .before .before .with-pup .ensures) at (c .go-to .ensures))
 
--- src/links.rt:17:1
 returns-2 : tie.Need-returns-2
 unfolding held pick
 returns-2 c = rw (c .before .before .before .before .enum-told .given .1, ← c .before .before .same-node .ensures, c .before .if1 .left) (rw (c .before .before .before .with-pup .ensures) at (c .go-to2 .ensures))
 
--- src/links.rt:17:1
 returns-3 : tie.Need-returns-3
 unfolding held pick
 returns-3 c = rw (c .before .before .enum-told2 .given .1) (rw (c .before .with-gpup .ensures) at (c .go-to3 .ensures))
 
--- src/links.rt:17:1
 returns-4 : tie.Need-returns-4
 unfolding held pick
 returns-4 c = rw (c .before .enum-told3 .given .1) (c .take-copy .ensures)
 
--- src/links.rt:17:1
 returns-5 : tie.Need-returns-5
 unfolding held pick
 returns-5 c = rw (c .before .before .enum-told4 .given .1) (rw (c .before .with-sup .ensures) at (c .go-to4 .ensures))
 
--- src/links.rt:17:1
 returns-6 : tie.Need-returns-6
 unfolding held pick
 returns-6 c = rw (c .before .enum-told5 .given .1) (c .go-to5 .ensures)

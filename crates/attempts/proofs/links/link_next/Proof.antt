@@ -1,78 +1,56 @@
-use mathlib.Core.Path.{_≡_, refl, sym, ap, _∙_}
-use borrow.Author.Tests.{eq-eqb, ne-eqb, le-leb, lt-leb, lt-ltb, le-ltb}
-use Rattle.steps.specs.Attempt.{linkNext}
+-- `link_next` is `linkNext`, move by move.
+use mathlib.Core.Path.{refl}
 use borrow.Author.Needs.{needs}
+use Rattle.steps.specs.Attempt.{linkNext}
 use Rattle.attempts.proofs.links.link_next.Statement.{statement}
 use Rattle.attempts.proofs.links.link_next.Tie as tie
-use Rattle.attempts.proofs.links.link_next.Reads as reads
-use Rattle.attempts.proofs.links.link_next.Lts as lts
-use Rattle.attempts.proofs.links.held.Reads as held-reads
-use Rattle.hand.proofs.go_to.Reads as go-to-reads
-use Rattle.hand.proofs.help_then_retry.Reads as help-then-retry-reads
-use Rattle.hand.proofs.retry.Reads as retry-reads
-use Rattle.hand.proofs.with_up.Reads as with-up-reads
 
--- src/links.rt:45:30
 enum-told : tie.Need-enum-told
 enum-told c = search needs
 
--- src/links.rt:46:24
 enum-known-m : tie.Need-enum-known-m
 enum-known-m c = search needs
 
--- src/links.rt:46:45
 with-up-requires : tie.Need-with-up-requires
 with-up-requires c κs = search needs
 
--- src/links.rt:46:33
 go-to-requires : tie.Need-go-to-requires
 go-to-requires c κs = search needs
 
--- src/links.rt:47:25
 enum-known-m-2 : tie.Need-enum-known-m-2
 enum-known-m-2 c = search needs
 
--- src/links.rt:47:31
 help-then-retry-requires : tie.Need-help-then-retry-requires
 help-then-retry-requires c κs = search needs
 
--- src/links.rt:48:28
 enum-told-2 : tie.Need-enum-told-2
 enum-told-2 c = search needs
 
--- src/links.rt:48:28
 retry-requires : tie.Need-retry-requires
 retry-requires c κs = search needs
 
--- src/links.rt:49:28
 enum-told-3 : tie.Need-enum-told-3
 enum-told-3 c = search needs
 
--- src/links.rt:49:28
 held-requires : tie.Need-held-requires
 held-requires c κs = search needs
 
--- src/links.rt:41:1
 returns : tie.Need-returns
 unfolding linkNext
 returns c = rw (c .enum-told .given .1) refl
 
--- src/links.rt:41:1
 returns-2 : tie.Need-returns-2
 unfolding linkNext
 returns-2 c = rw (c .before .before .before .m .given .1) (rw (c .before .with-up .ensures) at (c .go-to .ensures))
 
--- src/links.rt:41:1
 returns-3 : tie.Need-returns-3
 unfolding linkNext
 returns-3 c = rw (c .before .before .m2 .given .1) (c .help-then-retry .ensures)
 
--- src/links.rt:41:1
 returns-4 : tie.Need-returns-4
 unfolding linkNext
 returns-4 c = rw (c .before .enum-told2 .given .1) (c .retry .ensures)
 
--- src/links.rt:41:1
 returns-5 : tie.Need-returns-5
 unfolding linkNext
 returns-5 c = rw (c .before .enum-told3 .given .1) (c .held .ensures)

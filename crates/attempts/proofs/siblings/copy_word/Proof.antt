@@ -1,69 +1,51 @@
-use mathlib.Core.Path.{_≡_, refl, sym, ap, _∙_}
-use borrow.Author.Tests.{eq-eqb, ne-eqb, le-leb, lt-leb, lt-ltb, le-ltb}
+-- `copy_word` is `copyWord`: each match opens one `through`; the side chooses the place.
+use mathlib.Core.Path.{refl}
+use borrow.Author.Needs.{needs}
+use Rattle.laws.specs.Choice.{pick}
 use Rattle.steps.specs.Attempt.{copyWord}
 use Rattle.steps.specs.Hand.{through}
-use Rattle.laws.specs.Choice.{pick}
-use borrow.Author.Needs.{needs}
 use Rattle.attempts.proofs.siblings.copy_word.Statement.{statement}
 use Rattle.attempts.proofs.siblings.copy_word.Tie as tie
-use Rattle.attempts.proofs.siblings.copy_word.Reads as reads
-use Rattle.attempts.proofs.siblings.copy_word.Lts as lts
-use Rattle.hand.proofs.decide_to.Reads as decide-to-reads
-use Rattle.tables.proofs.child_at.Reads as child-at-reads
-use Rattle.tables.proofs.as_parent.Reads as as-parent-reads
 
--- src/siblings.rt:37:28
 as-parent-requires : tie.Need-as-parent-requires
 as-parent-requires c κs = search needs
 
--- src/siblings.rt:37:23
 enum-known-s : tie.Need-enum-known-s
 enum-known-s c = search needs
 
--- src/siblings.rt:38:9
 enum-told : tie.Need-enum-told
 enum-told c = search needs
 
--- src/siblings.rt:38:9
 returns : tie.Need-returns
 unfolding copyWord through pick
 returns c = rw (← c .before .before .as-parent .ensures, c .enum-told .given .1) refl
 
--- src/siblings.rt:40:31
 as-parent-requires-2 : tie.Need-as-parent-requires-2
 as-parent-requires-2 c κs = search needs
 
--- src/siblings.rt:40:23
 enum-known-copy : tie.Need-enum-known-copy
 enum-known-copy c = search needs
 
--- src/siblings.rt:41:9
 enum-told-2 : tie.Need-enum-told-2
 enum-told-2 c = search needs
 
--- src/siblings.rt:41:9
 returns-2 : tie.Need-returns-2
 unfolding copyWord through pick
 returns-2 c = rw (← c .before .before .before .before .before .before .as-parent .ensures, c .before .before .before .before .s .given .1, ← c .before .before .as-parent2 .ensures, c .enum-told2 .given .1) refl
 
--- src/siblings.rt:43:48
 child-at-requires : tie.Need-child-at-requires
 child-at-requires c κs = search needs
 
--- src/siblings.rt:45:9
 decide-to-requires : tie.Need-decide-to-requires
 decide-to-requires c κs = search needs
 
--- src/siblings.rt:47:9
 decide-to-requires-2 : tie.Need-decide-to-requires-2
 decide-to-requires-2 c κs = search needs
 
--- src/siblings.rt:32:1
 returns-3 : tie.Need-returns-3
 unfolding copyWord through pick
 returns-3 c = rw (← c .before .before .before .before .before .before .before .before .before .before .as-parent .ensures, c .before .before .before .before .before .before .before .before .s .given .1, ← c .before .before .before .before .before .before .as-parent2 .ensures, c .before .before .before .before .copy .given .1, ← c .before .before .child-at .ensures, c .before .if1 .taken) (rw (c .before .if1 .taken) at (c .decide-to .ensures))
 
--- src/siblings.rt:32:1
 returns-4 : tie.Need-returns-4
 unfolding copyWord through pick
 returns-4 c = rw (← c .before .before .before .before .before .before .before .before .before .before .as-parent .ensures, c .before .before .before .before .before .before .before .before .s .given .1, ← c .before .before .before .before .before .before .as-parent2 .ensures, c .before .before .before .before .copy .given .1, ← c .before .before .child-at .ensures, c .before .if1 .left) (rw (c .before .if1 .left) at (c .decide-to2 .ensures))

@@ -1,71 +1,53 @@
-use mathlib.Core.Path.{_≡_, refl, sym, ap, _∙_}
-use borrow.Author.Tests.{eq-eqb, ne-eqb, le-leb, lt-leb, lt-ltb, le-ltb}
-use Rattle.steps.specs.Validate.{linkChild}
+-- `link_child` is `linkChild`, call by call; a copy's child is `copyChild` of what `asParent` lets through.
+use mathlib.Core.Path.{refl}
 use borrow.Author.Needs.{needs}
+use Rattle.steps.specs.Validate.{linkChild}
 use Rattle.seek.proofs.validate.link_child.Statement.{statement}
 use Rattle.seek.proofs.validate.link_child.Tie as tie
-use Rattle.seek.proofs.validate.link_child.Reads as reads
-use Rattle.seek.proofs.validate.link_child.Lts as lts
-use Rattle.seek.proofs.validate.copy_child.Reads as copy-child-reads
-use Rattle.tables.proofs.as_parent.Reads as as-parent-reads
 
--- src/validate.rt:97:25
 enum-told : tie.Need-enum-told
 enum-told c = search needs
 
--- src/validate.rt:98:27
 enum-told-2 : tie.Need-enum-told-2
 enum-told-2 c = search needs
 
--- src/validate.rt:99:29
 enum-told-3 : tie.Need-enum-told-3
 enum-told-3 c = search needs
 
--- src/validate.rt:100:69
 enum-told-4 : tie.Need-enum-told-4
 enum-told-4 c = search needs
 
--- src/validate.rt:100:44
 as-parent-requires : tie.Need-as-parent-requires
 as-parent-requires c κs = search needs
 
--- src/validate.rt:100:26
 copy-child-requires : tie.Need-copy-child-requires
 copy-child-requires c κs = search needs
 
--- src/validate.rt:101:70
 enum-told-5 : tie.Need-enum-told-5
 enum-told-5 c = search needs
 
--- src/validate.rt:101:45
 as-parent-requires-2 : tie.Need-as-parent-requires-2
 as-parent-requires-2 c κs = search needs
 
--- src/validate.rt:101:27
 copy-child-requires-2 : tie.Need-copy-child-requires-2
 copy-child-requires-2 c κs = search needs
 
--- src/validate.rt:89:1
 returns : tie.Need-returns
 unfolding linkChild
 returns c = rw (c .enum-told .given .1) refl
 
--- src/validate.rt:89:1
 returns-2 : tie.Need-returns-2
 unfolding linkChild
 returns-2 c = rw (c .enum-told2 .given .1) refl
 
--- src/validate.rt:89:1
 returns-3 : tie.Need-returns-3
 unfolding linkChild
 returns-3 c = rw (c .enum-told3 .given .1) refl
 
--- src/validate.rt:89:1
 returns-4 : tie.Need-returns-4
 unfolding linkChild
 returns-4 c = rw (c .before .before .enum-told4 .given .1, ← c .before .as-parent .ensures) (c .copy-child .ensures)
 
--- src/validate.rt:89:1
 returns-5 : tie.Need-returns-5
 unfolding linkChild
 returns-5 c = rw (c .before .before .enum-told5 .given .1, ← c .before .as-parent2 .ensures) (c .copy-child2 .ensures)

@@ -1,50 +1,35 @@
-use mathlib.Core.Path.{_≡_, refl, sym, ap, _∙_}
-use borrow.Author.Tests.{eq-eqb, ne-eqb, le-leb, lt-leb, lt-ltb, le-ltb}
-use Rattle.steps.specs.Validate.{linkOf}
+-- `link_of` is `linkOf`, step by step.
 use borrow.Author.Needs.{needs}
+use Rattle.steps.specs.Validate.{linkOf}
 use Rattle.seek.proofs.validate.link_of.Statement.{statement}
 use Rattle.seek.proofs.validate.link_of.Tie as tie
-use Rattle.seek.proofs.validate.link_of.Reads as reads
-use Rattle.seek.proofs.validate.link_of.Lts as lts
-use Rattle.seek.proofs.validate.child57.Reads as child57-reads
-use Rattle.seek.proofs.validate.state53.Reads as state53-reads
-use Rattle.seek.proofs.validate.word52.Reads as word52-reads
 
--- src/validate.rt:58:29
 enum-told : tie.Need-enum-told
 enum-told c = search needs
 
--- src/validate.rt:58:29
 word52-requires : tie.Need-word52-requires
 word52-requires c κs = search needs
 
--- src/validate.rt:59:30
 enum-told-2 : tie.Need-enum-told-2
 enum-told-2 c = search needs
 
--- src/validate.rt:59:30
 state53-requires : tie.Need-state53-requires
 state53-requires c κs = search needs
 
--- src/validate.rt:60:30
 enum-told-3 : tie.Need-enum-told-3
 enum-told-3 c = search needs
 
--- src/validate.rt:60:30
 child57-requires : tie.Need-child57-requires
 child57-requires c κs = search needs
 
--- src/validate.rt:46:1
 returns : tie.Need-returns
 unfolding linkOf
 returns c = rw (c .before .enum-told .given .1) (c .word52 .ensures)
 
--- src/validate.rt:46:1
 returns-2 : tie.Need-returns-2
 unfolding linkOf
 returns-2 c = rw (c .before .enum-told2 .given .1) (c .state53 .ensures)
 
--- src/validate.rt:46:1
 returns-3 : tie.Need-returns-3
 unfolding linkOf
 returns-3 c = rw (c .before .enum-told3 .given .1) (c .child57 .ensures)
