@@ -12,6 +12,8 @@ use shapes::Totals;
 ghost use mathlib.Core.Path.{_≡_};
 ghost use Rattle.steps.specs.Attempt.{reaches182, validated, word66, grand66};
 
+pub const ROOT: NodeNo = NodeNo(0);
+
 // With gp absent, or p the Root so that gp has no word, line 182 is crooked.
 fn reaches182(v: Locals, gp: MaybeNode) -> Decision
     ensures { λ r. ⌜ r ≡ reaches182 v gp ⌝ }
@@ -20,7 +22,7 @@ fn reaches182(v: Locals, gp: MaybeNode) -> Decision
     let MaybeNode::At(_) = gp else {
         return Decision::Crooked;
     };
-    if tables::same_node(p, NodeNo(0)) {
+    if tables::same_node(p, ROOT) {
         Decision::Crooked
     } else {
         hand::go_to(v, Place::Sibling182)
@@ -70,7 +72,7 @@ pub fn word66(totals: Totals, nodes: &[u32], kind: Kind, k: Key, v: Locals) -> D
     };
     let word = tables::update_at(nodes, p);
     if tables::same_update(word, pup) {
-        if tables::same_node(p, NodeNo(0)) {
+        if tables::same_node(p, ROOT) {
             validated(totals, nodes, kind, k, v)
         } else {
             hand::go_to(v, Place::Grand66)

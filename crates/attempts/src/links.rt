@@ -1,4 +1,5 @@
 // What follows a turn inside VALIDATELINK.
+use crate::leaves::ROOT;
 use crate::taking::take_copy;
 use shapes::Decision;
 use shapes::Key;
@@ -6,7 +7,6 @@ use shapes::Link;
 use shapes::LinkMove;
 use shapes::LinkStep;
 use shapes::Locals;
-use shapes::NodeNo;
 use shapes::Place;
 use shapes::Totals;
 ghost use mathlib.Core.Path.{_≡_};
@@ -22,7 +22,7 @@ fn held(totals: Totals, nodes: &[u32], v: Locals, a: Link) -> Decision
     match a {
         Link::Leaf64 => {
             let next = hand::with_pup(v, up);
-            if tables::same_node(p, NodeNo(0)) {
+            if tables::same_node(p, ROOT) {
                 hand::go_to(next, Place::Word66)
             } else {
                 hand::go_to(next, Place::Link(Link::Parent65, LinkStep::Word52))
