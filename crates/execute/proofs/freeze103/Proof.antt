@@ -1,55 +1,43 @@
+-- `freeze103` is its definition: the tests are rewritten by the entry and the word as they were read.
+use mathlib.Core.Path.{refl}
+use Rattle.steps.specs.Execute.{freeze103}
+use Rattle.laws.specs.Choice.{pick}
 use borrow.Author.Needs.{needs}
 use Rattle.execute.proofs.freeze103.Statement.{statement}
 use Rattle.execute.proofs.freeze103.Tie as tie
-use Rattle.execute.proofs.freeze103.Reads as reads
-use Rattle.execute.proofs.freeze103.Lts as lts
-use Rattle.hand.proofs.decide_to.Reads as decide-to-reads
-use Rattle.hand.proofs.holding_record.Reads as holding-record-reads
-use Rattle.hand.proofs.retry.Reads as retry-reads
-use Rattle.tables.proofs.same_update.Reads as same-update-reads
-use Rattle.tables.proofs.update_at.Reads as update-at-reads
-use Rattle.tables.proofs.entry_at.Reads as entry-at-reads
-use Rattle.tables.proofs.helpable.Reads as helpable-reads
 
--- src/lib.rt:222:8
 helpable-requires : tie.Need-helpable-requires
 helpable-requires c κs = search needs
 
--- src/lib.rt:223:13
 entry-at-requires : tie.Need-entry-at-requires
 entry-at-requires c κs = search needs
 
--- src/lib.rt:226:13
 update-at-requires : tie.Need-update-at-requires
 update-at-requires c κs = search needs
 
--- src/lib.rt:227:12
 same-update-requires : tie.Need-same-update-requires
 same-update-requires c κs = search needs
 
--- src/lib.rt:229:17
 holding-record-requires : tie.Need-holding-record-requires
 holding-record-requires c κs = search needs
 
--- src/lib.rt:230:13
 decide-to-requires : tie.Need-decide-to-requires
 decide-to-requires c κs = search needs
 
--- src/lib.rt:236:13
 retry-requires : tie.Need-retry-requires
 retry-requires c κs = search needs
 
--- src/lib.rt:218:1
 returns : tie.Need-returns
-returns c = ?
+unfolding freeze103 pick
+returns c = rw (← c .before .before .before .before .before .before .before .before .before .helpable .ensures, c .before .before .before .before .before .before .before .before .if1 .taken, ← c .before .before .before .before .before .before .before .entry-at .ensures, ← c .before .before .before .before .update-at .ensures, ← c .before .before .before .same-update .ensures, c .before .before .if2 .taken) (rw (c .before .holding-record .ensures) at (c .decide-to .ensures))
 
--- src/lib.rt:218:1
 returns-2 : tie.Need-returns-2
-returns-2 c = ?
+unfolding freeze103 pick
+returns-2 c = rw (← c .before .before .before .before .before .before .before .before .helpable .ensures, c .before .before .before .before .before .before .before .if1 .taken, ← c .before .before .before .before .before .before .entry-at .ensures, ← c .before .before .before .update-at .ensures, ← c .before .before .same-update .ensures, c .before .if2 .left) (c .retry .ensures)
 
--- src/lib.rt:218:1
 returns-3 : tie.Need-returns-3
-returns-3 c = ?
+unfolding freeze103 pick
+returns-3 c = rw (← c .before .helpable .ensures, c .if1 .left) refl
 
 pub freeze103-spec : {M : Type 1} → statement M
 freeze103-spec =

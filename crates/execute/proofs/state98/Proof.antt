@@ -1,41 +1,32 @@
+-- `state98` is its definition: the word as `old_update` gives it, its state as it is read.
+use Rattle.steps.specs.Execute.{state98}
+use Rattle.laws.specs.Choice.{pick}
 use borrow.Author.Needs.{needs}
 use Rattle.execute.proofs.state98.Statement.{statement}
 use Rattle.execute.proofs.state98.Tie as tie
-use Rattle.execute.proofs.state98.Reads as reads
-use Rattle.execute.proofs.state98.Lts as lts
-use Rattle.execute.proofs.old_update.Reads as old-update-reads
-use Rattle.hand.proofs.help_then_retry.Reads as help-then-retry-reads
-use Rattle.hand.proofs.retry.Reads as retry-reads
-use Rattle.tables.proofs.in_progress.Reads as in-progress-reads
-use Rattle.tables.proofs.state_at.Reads as state-at-reads
 
--- src/lib.rt:207:9
 old-update-requires : tie.Need-old-update-requires
 old-update-requires c κs = search needs
 
--- src/lib.rt:209:9
 state-at-requires : tie.Need-state-at-requires
 state-at-requires c κs = search needs
 
--- src/lib.rt:210:8
 in-progress-requires : tie.Need-in-progress-requires
 in-progress-requires c κs = search needs
 
--- src/lib.rt:211:9
 help-then-retry-requires : tie.Need-help-then-retry-requires
 help-then-retry-requires c κs = search needs
 
--- src/lib.rt:213:9
 retry-requires : tie.Need-retry-requires
 retry-requires c κs = search needs
 
--- src/lib.rt:204:1
 returns : tie.Need-returns
-returns c = ?
+unfolding state98 pick
+returns c = rw (← c .before .before .before .before .before .old-update .ensures, ← c .before .before .before .state-at .ensures, ← c .before .before .in-progress .ensures, c .before .if1 .taken) (c .help-then-retry .ensures)
 
--- src/lib.rt:204:1
 returns-2 : tie.Need-returns-2
-returns-2 c = ?
+unfolding state98 pick
+returns-2 c = rw (← c .before .before .before .before .before .old-update .ensures, ← c .before .before .before .state-at .ensures, ← c .before .before .in-progress .ensures, c .before .if1 .left) (c .retry .ensures)
 
 pub state98-spec : {M : Type 1} → statement M
 state98-spec =
