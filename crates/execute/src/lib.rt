@@ -1,4 +1,4 @@
-// EXECUTE (lines 93 to 106): what a turn in it decides.
+// EXECUTE (lines 92 to 106): what a turn in it decides.
 use shapes::Back;
 use shapes::Decision;
 use shapes::Effect;
@@ -12,23 +12,26 @@ use shapes::NodeNo;
 use shapes::Place;
 use shapes::Update;
 ghost use mathlib.Core.Path.{_≡_};
+ghost use Rattle.tables.specs.Records.{entry};
 ghost use Rattle.sound.specs.Homes.{listed};
 ghost use Rattle.steps.specs.Execute.{oldUpdate, insertFilling, deleteFilling, fillInsert, fillDelete, fills, frozen97, state98, freeze103};
 
 const FLAG: u32 = 0;
 
-// Whether a listed node is to be marked.
-const STAYS: u32 = 0;
+const MARK: u32 = 1;
 
-const MARKED: u32 = 1;
+// How many nodes lines 164 and 190 list.
+const INSERT_LISTS: u32 = 2;
+
+const DELETE_LISTS: u32 = 4;
 
 // How many nodes the operation's record lists.
 pub fn listed(o: Kind) -> u32
     ensures { λ n. ⌜ n ≡ listed o ⌝ }
 {
     match o {
-        Kind::Insert => 2,
-        Kind::Delete => 4,
+        Kind::Insert => INSERT_LISTS,
+        Kind::Delete => DELETE_LISTS,
         Kind::Find => 0,
     }
 }
@@ -52,6 +55,17 @@ fn old_update(o: Kind, v: Locals, i: u32) -> Update
     }
 }
 
+// nodes[i], its old word, and MARK where it is to be marked.
+fn entry(x: NodeNo, u: Update, m: u32) -> Entry
+    ensures { λ e. ⌜ e ≡ entry x u m ⌝ }
+{
+    Entry {
+        node: x,
+        old: u,
+        mark: m,
+    }
+}
+
 // Line 164.
 fn insert_filling(v: Locals) -> Filling
     ensures { λ f. ⌜ f ≡ insertFilling v ⌝ }
@@ -60,29 +74,17 @@ fn insert_filling(v: Locals) -> Filling
     let l = v.l;
     let new = v.made;
     let seq = v.seq;
-    let pup = v.pup;
-    let lup = v.lup;
-    let none = Entry {
-        node: NodeNo(0),
-        old: hand::fresh_word(),
-        mark: STAYS,
-    };
+    let first = entry(p, v.pup, FLAG);
+    let second = entry(l, v.lup, MARK);
+    let none = entry(NodeNo(0), hand::fresh_word(), FLAG);
     Filling {
-        count: 2,
+        count: INSERT_LISTS,
         par: p,
         old: l,
         new,
         seq,
-        first: Entry {
-            node: p,
-            old: pup,
-            mark: STAYS,
-        },
-        second: Entry {
-            node: l,
-            old: lup,
-            mark: MARKED,
-        },
+        first,
+        second,
         third: none,
         fourth: none,
     }
@@ -93,40 +95,22 @@ fn delete_filling(v: Locals, g: NodeNo) -> Filling
     ensures { λ f. ⌜ f ≡ deleteFilling v g ⌝ }
 {
     let p = v.p;
-    let l = v.l;
-    let sibling = v.sibling;
     let new = v.made;
     let seq = v.seq;
-    let gpup = v.gpup;
-    let pup = v.pup;
-    let lup = v.lup;
-    let sup = v.sup;
+    let first = entry(g, v.gpup, FLAG);
+    let second = entry(p, v.pup, MARK);
+    let third = entry(v.l, v.lup, MARK);
+    let fourth = entry(v.sibling, v.sup, MARK);
     Filling {
-        count: 4,
+        count: DELETE_LISTS,
         par: g,
         old: p,
         new,
         seq,
-        first: Entry {
-            node: g,
-            old: gpup,
-            mark: STAYS,
-        },
-        second: Entry {
-            node: p,
-            old: pup,
-            mark: MARKED,
-        },
-        third: Entry {
-            node: l,
-            old: lup,
-            mark: MARKED,
-        },
-        fourth: Entry {
-            node: sibling,
-            old: sup,
-            mark: MARKED,
-        },
+        first,
+        second,
+        third,
+        fourth,
     }
 }
 
