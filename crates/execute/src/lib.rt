@@ -20,12 +20,11 @@ const FLAG: u32 = 0;
 
 const MARK: u32 = 1;
 
-// How many nodes lines 164 and 190 list.
+// How many nodes a record lists (lines 164 and 190).
 const INSERT_LISTS: u32 = 2;
 
 const DELETE_LISTS: u32 = 4;
 
-// How many nodes the operation's record lists.
 pub fn listed(o: Kind) -> u32
     ensures { λ n. ⌜ n ≡ listed o ⌝ }
 {
@@ -56,7 +55,7 @@ fn old_update(o: Kind, v: Locals, i: u32) -> Update
 }
 
 // nodes[i], its old word, and MARK where it is to be marked.
-fn entry(x: NodeNo, u: Update, m: u32) -> Entry
+fn entry_of(x: NodeNo, u: Update, m: u32) -> Entry
     ensures { λ e. ⌜ e ≡ entry x u m ⌝ }
 {
     Entry {
@@ -74,9 +73,9 @@ fn insert_filling(v: Locals) -> Filling
     let l = v.l;
     let new = v.made;
     let seq = v.seq;
-    let first = entry(p, v.pup, FLAG);
-    let second = entry(l, v.lup, MARK);
-    let none = entry(NodeNo(0), hand::fresh_word(), FLAG);
+    let first = entry_of(p, v.pup, FLAG);
+    let second = entry_of(l, v.lup, MARK);
+    let none = entry_of(NodeNo(0), hand::fresh_word(), FLAG);
     Filling {
         count: INSERT_LISTS,
         par: p,
@@ -97,10 +96,10 @@ fn delete_filling(v: Locals, g: NodeNo) -> Filling
     let p = v.p;
     let new = v.made;
     let seq = v.seq;
-    let first = entry(g, v.gpup, FLAG);
-    let second = entry(p, v.pup, MARK);
-    let third = entry(v.l, v.lup, MARK);
-    let fourth = entry(v.sibling, v.sup, MARK);
+    let first = entry_of(g, v.gpup, FLAG);
+    let second = entry_of(p, v.pup, MARK);
+    let third = entry_of(v.l, v.lup, MARK);
+    let fourth = entry_of(v.sibling, v.sup, MARK);
     Filling {
         count: DELETE_LISTS,
         par: g,
@@ -114,7 +113,7 @@ fn delete_filling(v: Locals, g: NodeNo) -> Filling
     }
 }
 
-// Line 102; line 103 is next.
+// Line 102 for an insert; p, which it lists, must be internal.
 fn fill_insert(nodes: &[u32], v: Locals) -> Decision
     ensures { λ d. ⌜ d ≡ fillInsert (now (nodes .entry)) v ⌝ }
 {
@@ -128,6 +127,7 @@ fn fill_insert(nodes: &[u32], v: Locals) -> Decision
     hand::decide_to(Effect::Fill(info, filling), next, Place::Freeze103)
 }
 
+// Line 102 for a delete; gp and p must be internal, and the copy of the kind that it copies.
 fn fill_delete(nodes: &[u32], v: Locals) -> Decision
     ensures { λ d. ⌜ d ≡ fillDelete (now (nodes .entry)) v ⌝ }
 {
@@ -153,6 +153,7 @@ fn fill_delete(nodes: &[u32], v: Locals) -> Decision
     }
 }
 
+// A find executes nothing.
 fn fills(nodes: &[u32], o: Kind, v: Locals) -> Decision
     ensures { λ d. ⌜ d ≡ fills (now (nodes .entry)) o v ⌝ }
 {

@@ -25,7 +25,7 @@ const COMMITTED: u32 = 2;
 
 const ABORTED: u32 = 3;
 
-// nodes[1] is frozen by line 103.
+// Where HELP begins in the list: line 103 froze nodes[1].
 const SECOND: u32 = 2;
 
 // On to a step with no effect, outside the list.
@@ -149,6 +149,7 @@ fn state125(records: &[u32], r: RecordNo) -> HelpMove
     }
 }
 
+// One turn inside HELP, by the line it executes.
 fn help_step(
     totals: Totals,
     nodes: &[u32],
