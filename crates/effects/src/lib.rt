@@ -82,19 +82,11 @@ fn top_of(
 )
     ensures { λ r. ⌜ now (nodes .exit) ≡ topOf (now (nodes .entry)) new sibling x k b q l ⌝ }
 {
+    let prev = MaybeNode::At(l);
     if (k.0 as u64) < key_value(b) {
-        new_node(nodes, x, INTERNAL, b, q, MaybeNode::At(l), new, sibling);
+        new_node(nodes, x, INTERNAL, b, q, prev, new, sibling);
     } else {
-        new_node(
-            nodes,
-            x,
-            INTERNAL,
-            finite(k),
-            q,
-            MaybeNode::At(l),
-            sibling,
-            new,
-        );
+        new_node(nodes, x, INTERNAL, finite(k), q, prev, sibling, new);
     }
 }
 
@@ -103,20 +95,12 @@ fn three_nodes(nodes: &mut [u32], u: u32, k: Key, l: NodeNo, q: Phase)
     requires { ⌜ u ≤ mostN ⌝ }
     ensures { λ r. ⌜ now (nodes .exit) ≡ threeNodes (now (nodes .entry)) u k l q ⌝ }
 {
+    let a = finite(k);
     let b = rank_at(nodes, l);
     let none = NodeNo(0);
     let new = NodeNo(u);
     let sibling = NodeNo(u + 1);
-    new_node(
-        nodes,
-        new,
-        LEAF,
-        finite(k),
-        q,
-        MaybeNode::Absent,
-        none,
-        none,
-    );
+    new_node(nodes, new, LEAF, a, q, MaybeNode::Absent, none, none);
     new_node(nodes, sibling, LEAF, b, q, MaybeNode::Absent, none, none);
     top_of(nodes, new, sibling, NodeNo(u + 2), k, b, q, l);
 }
