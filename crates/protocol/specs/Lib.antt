@@ -1,0 +1,4 @@
+pub mod Ghost
+pub mod Invariant
+pub mod Freeze
+pub mod SetState
