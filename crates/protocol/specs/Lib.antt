@@ -2,3 +2,4 @@ pub mod Ghost
 pub mod Invariant
 pub mod Freeze
 pub mod SetState
+pub mod Link
