@@ -24,9 +24,9 @@ froze-was G r x q v = change-case (λ f. f v ≡ true → (G .froze q v ≡ true
   (λ e. change-case (λ b. b ≡ true → (G .froze q v ≡ true) ⊎ ((q ≡ r) × (v ≡ x))) (G .froze r) x true v (λ d h. inr (e, d)) (λ d h. inl (rw e h)))
   (λ e h. inl h)
 
-module _ (X : View) (G : Ghost) (H : Holds X G) (r j m : ℕ) (f : Filled X r) (l : InList X r j) (live : Live X r) (hit : X .update (nodeOf X r j) ≡ oldOf X r j) where
+module _ (X : View) (G : Ghost) (H : Holds X G) (r j m : ℕ) (f : Filled X r) (l : InList (X .filling r) j) (live : Live X r) (hit : X .update (nodeOf (X .filling r) j) ≡ oldOf (X .filling r) j) where
   abbrev x : ℕ
-  x = nodeOf X r j
+  x = nodeOf (X .filling r) j
 
   abbrev u : Update
   u = update m (recordNo r)
@@ -37,7 +37,7 @@ module _ (X : View) (G : Ghost) (H : Holds X G) (r j m : ℕ) (f : Filled X r) (
   abbrev G′ : Ghost
   G′ = gFroze G r x
 
-  R : RecordHolds X G r
+  R : RecordHolds X G r (X .filling r)
   R = H .records r f
 
   filled′ : (q : ℕ) → Filled X q → Filled X′ q
@@ -45,12 +45,6 @@ module _ (X : View) (G : Ghost) (H : Holds X G) (r j m : ℕ) (f : Filled X r) (
 
   filled-was : (q : ℕ) → Filled X′ q → Filled X q
   filled-was q g = record { used = g .used; some = g .some }
-
-  list-was : (q k : ℕ) → InList X′ q k → InList X q k
-  list-was q k g = record { low = g .low; high = g .high }
-
-  list′ : (q k : ℕ) → InList X q k → InList X′ q k
-  list′ q k g = record { low = g .low; high = g .high }
 
   known′ : (w : Update) → KnownWord X w → KnownWord X′ w
   known′ w (inl e) = inl e
@@ -64,40 +58,41 @@ module _ (X : View) (G : Ghost) (H : Holds X G) (r j m : ℕ) (f : Filled X r) (
   stamp-up v = change-case (λ w. G .stamp (X .update v .info .0) ≤ G .stamp (w .info .0)) (X .update) x u v (λ e. rw e (omega (arith, rises))) (λ e. omega arith)
 
   pub seen′ : (v : ℕ) (w : Update) → Seen X G v w → Seen X′ G′ v w
-  seen′ v w h = record { known = known′ w (h .known); since = by-equal v x (λ e. inr (rw (e, change-same (X .update) x u) (older e (h .since)))) (λ e. rw (change-other (X .update) x u v e) (h .since)) }
+  seen′ v w h = record { used = h .used; known = known′ w (h .known); since = by-equal v x (λ e. inr (rw (e, change-same (X .update) x u) (older e (h .since)))) (λ e. rw (change-other (X .update) x u v e) (h .since)) }
     where
       older : v ≡ x → (X .update v ≡ w) ⊎ (G .stamp (w .info .0) < G .stamp (X .update v .info .0)) → G .stamp (w .info .0) < G .stamp r
       older e (inl p) = let same : X .update x ≡ w = rw (← e) p in rw (← same) rises
       older e (inr p) = let q : G .stamp (w .info .0) < G .stamp (X .update x .info .0) = rw (← e) p in omega (arith, rises)
 
-  passed′ : (q k : ℕ) → Passed X G q k → Passed X′ G′ q k
-  passed′ q k h = omega (arith, stamp-up (nodeOf X q k))
+  passed′ : (q k : ℕ) → Passed X G (X .filling q) k → Passed X′ G′ (X .filling q) k
+  passed′ q k h = omega (arith, stamp-up (nodeOf (X .filling q) k))
 
   -- a record whose word is final, or that is in progress, at the node: this one
-  held-was : (q k : ℕ) → Filled X q → InList X q k → Held X′ q k → Held X q k
-  held-was q k g i h = record { open′ = h .open′; word = change-case (λ w. Kept w → Kept (X .update (nodeOf X q k))) (X .update) x u (nodeOf X q k) here (λ e p. p) (h .word) }
+  held-was : (q k : ℕ) → Filled X q → InList (X .filling q) k → Held X′ q (X .filling q) k → Held X q (X .filling q) k
+  held-was q k g i h = record { open′ = h .open′; word = change-case (λ w. Kept w → Kept (X .update (nodeOf (X .filling q) k))) (X .update) x u (nodeOf (X .filling q) k) here (λ e p. p) (h .word) }
     where
       Kept : Update → Type 0
-      Kept w = (w ≡ oldOf X q k) ⊎ ((w .info .0 ≡ q) × Live X q)
+      Kept w = (w ≡ oldOf (X .filling q) k) ⊎ ((w .info .0 ≡ q) × Live X q)
 
-      here : nodeOf X q k ≡ x → Kept u → Kept (X .update (nodeOf X q k))
+      here : nodeOf (X .filling q) k ≡ x → Kept u → Kept (X .update (nodeOf (X .filling q) k))
       here e (inl p) =
-          let final : committed ≤ X .state (oldOf X q k .info .0) = H .records q g .old-final k i in
-          let same : oldOf X q k .info .0 ≡ r = ap (λ (w : Update). w .info .0) (sym p) in
+          let final : committed ≤ X .state (oldOf (X .filling q) k .info .0) = H .records q g .old-final k i in
+          let same : oldOf (X .filling q) k .info .0 ≡ r = ap (λ (w : Update). w .info .0) (sym p) in
           let z : committed ≤ X .state r = rw same at final in
           absurd (omega (arith, live))
-      here e (inr p) = inl (subst (λ y. nodeOf X y k ≡ x → InList X y k → X .update (nodeOf X y k) ≡ oldOf X y k) (p .0) own e i)
+      here e (inr p) = inl (subst (λ y. nodeOf (X .filling y) k ≡ x → InList (X .filling y) k → X .update (nodeOf (X .filling y) k) ≡ oldOf (X .filling y) k) (p .0) own e i)
         where
-          own : nodeOf X r k ≡ x → InList X r k → X .update (nodeOf X r k) ≡ oldOf X r k
+          own : nodeOf (X .filling r) k ≡ x → InList (X .filling r) k → X .update (nodeOf (X .filling r) k) ≡ oldOf (X .filling r) k
           own d i′ = let same : k ≡ j = R .apart k j i′ l d in rw same hit
 
-  record′ : (q : ℕ) → Filled X′ q → RecordHolds X′ G′ q
+  record′ : (q : ℕ) → Filled X′ q → RecordHolds X′ G′ q (X .filling q)
   record′ q g =
-      let was : RecordHolds X G q = H .records q (filled-was q g) in
+      let was : RecordHolds X G q (X .filling q) = H .records q (filled-was q g) in
       record {
-        old-final = λ k i. was .old-final k (list-was q k i);
-        old-seen = λ k i. seen′ _ _ (was .old-seen k (list-was q k i));
-        old-stamp = λ k i. was .old-stamp k (list-was q k i);
+        old-final = λ k i. was .old-final k i;
+        old-seen = λ k i. seen′ _ _ (was .old-seen k i);
+        old-stamp = λ k i. was .old-stamp k i;
+        frozen = λ v h. elim (froze-was G r x q v h) [ inl p ↦ was .frozen v p | inr p ↦ rw (p .1) (H .used x (R .linked j l)) ];
         later = λ v h. elim (froze-was G r x q v h) [
           inl p ↦ omega (arith, was .later v p, stamp-up v)
           | inr p ↦ rw (p .0, p .1, change-same (X .update) x u) (omega arith)
@@ -114,14 +109,14 @@ module _ (X : View) (G : Ghost) (H : Holds X G) (r j m : ℕ) (f : Filled X r) (
         ];
         tried-state = was .tried-state;
         most = was .most;
-        commits = λ e. let c = was .commits e in (c .0, (λ k i. froze-more G r x q _ (c .1 k (list-was q k i))), c .2);
+        commits = λ e. let c = was .commits e in (c .0, (λ k i. froze-more G r x q _ (c .1 k i)), c .2);
         aborts = λ e t. by-equal q r (λ d. let z : X .state r ≡ aborted = rw d at e in absurd (omega (arith, live))) (λ d. lost′ d (was .aborts e t));
         two = was .two;
         most-listed = was .most-listed;
         first = was .first;
         second = was .second;
-        linked = λ k i. was .linked k (list-was q k i);
-        apart = λ a b i k. was .apart a b (list-was q a i) (list-was q b k);
+        linked = λ k i. was .linked k i;
+        apart = λ a b i k. was .apart a b i k;
         inner = was .inner;
         old-phase = was .old-phase;
         new-used = was .new-used;
@@ -131,10 +126,10 @@ module _ (X : View) (G : Ghost) (H : Holds X G) (r j m : ℕ) (f : Filled X r) (
         fresh = was .fresh;
         kind = kind′ (was .kind) }
     where
-      lost′ : q ≢ r → Lost X G q → Lost X′ G′ q
-      lost′ ne h = record { at = h .at; list = list′ q _ (h .list); before = λ k a b. froze-more G r x q _ (h .before k a b); not = ap (λ f. f (nodeOf X q (h .at))) (change-other (G .froze) r _ q ne) ∙ h .not; gone = passed′ q _ (h .gone) }
+      lost′ : q ≢ r → Lost X G q (X .filling q) → Lost X′ G′ q (X .filling q)
+      lost′ ne h = record { at = h .at; list = h .list; before = λ k a b. froze-more G r x q _ (h .before k a b); not = ap (λ f. f (nodeOf (X .filling q) (h .at))) (change-other (G .froze) r _ q ne) ∙ h .not; gone = passed′ q _ (h .gone) }
 
-      kind′ : Planted X G q ⊎ Copied X G q → Planted X′ G′ q ⊎ Copied X′ G′ q
+      kind′ : Planted X G q (X .filling q) ⊎ Copied X G q (X .filling q) → Planted X′ G′ q (X .filling q) ⊎ Copied X′ G′ q (X .filling q)
       kind′ (inl p) = inl (record { left = p .left; right = p .right; inner = p .inner; kids = p .kids; leaf-left = p .leaf-left; leaf-right = p .leaf-right; phase-left = p .phase-left; phase-right = p .phase-right; no-prev = p .no-prev; used = p .used; made = p .made; fresh = p .fresh; differ = p .differ })
       kind′ (inr c) = inr (record {
         four = c .four; side = c .side; inner = c .inner;
@@ -144,7 +139,9 @@ module _ (X : View) (G : Ghost) (H : Holds X G) (r j m : ℕ) (f : Filled X r) (
 
   pub freeze-holds : Holds X′ G′
   freeze-holds = record {
-    records = record′; unfilled = H .unfilled; dummy = H .dummy; stamps = H .stamps;
+    records = record′; unfilled = H .unfilled;
+    blank = λ q n. let was = H .blank q (λ g. n (filled′ q g)) in (was .0, was .1, λ v. ap (λ h. h v) (change-other (G .froze) r _ q (λ e. n (rw e (filled′ r f)))) ∙ was .2 v);
+    dummy = H .dummy; stamps = H .stamps;
     words = λ v b. change-case (λ w. KnownWord X′ w × (w .info .0 ≢ 0 → G′ .froze (w .info .0) v ≡ true)) (X .update) x u v
       (λ e. (inr (filled′ r f), λ ne. rw (e, change-same (G .froze) r (change (G .froze r) x true)) (change-same (G .froze r) x true)))
       (λ e. let was = H .words v b in (known′ (X .update v) (was .0), λ ne. froze-more G r x _ v (was .1 ne)));

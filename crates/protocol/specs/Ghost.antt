@@ -28,62 +28,62 @@ pub record Ghost : Type 0 where
 
 -- ---- a record's parts
 
-abbrev pub nodeOf : View → ℕ → ℕ → ℕ
-nodeOf X r j = entryOf (X .filling r) j .node .0
+abbrev pub nodeOf : Filling → ℕ → ℕ
+nodeOf f j = entryOf f j .node .0
 
-abbrev pub oldOf : View → ℕ → ℕ → Update
-oldOf X r j = entryOf (X .filling r) j .old
+abbrev pub oldOf : Filling → ℕ → Update
+oldOf f j = entryOf f j .old
 
-abbrev pub parOf : View → ℕ → ℕ
-parOf X r = X .filling r .par .0
+abbrev pub parOf : Filling → ℕ
+parOf f = f .par .0
 
-abbrev pub oldChildOf : View → ℕ → ℕ
-oldChildOf X r = X .filling r .old .0
+abbrev pub oldChildOf : Filling → ℕ
+oldChildOf f = f .old .0
 
-abbrev pub newChildOf : View → ℕ → ℕ
-newChildOf X r = X .filling r .new .0
+abbrev pub newChildOf : Filling → ℕ
+newChildOf f = f .new .0
 
-abbrev pub seqOf : View → ℕ → ℕ
-seqOf X r = X .filling r .seq .0
+abbrev pub seqOf : Filling → ℕ
+seqOf f = f .seq .0
 
 -- the side that CAS-CHILD takes (line 84), and what stands there
-abbrev pub sideOf : View → ℕ → Bool
-sideOf X r = ltb (value (X .fixed (newChildOf X r) .rank)) (value (X .fixed (parOf X r) .rank))
+abbrev pub sideOf : View → Filling → Bool
+sideOf X f = ltb (value (X .fixed (newChildOf f) .rank)) (value (X .fixed (parOf f) .rank))
 
-abbrev pub linkOf : View → ℕ → ℕ
-linkOf X r = X .kid (sideOf X r) (parOf X r)
+abbrev pub linkOf : View → Filling → ℕ
+linkOf X f = X .kid (sideOf X f) (parOf f)
 
 pub record Filled (X : View) (r : ℕ) : Type 0 where
   pub used : r < X .records
   pub some : 0 < X .filling r .count
 
 -- a place in the record's list
-pub record InList (X : View) (r j : ℕ) : Type 0 where
+pub record InList (f : Filling) (j : ℕ) : Type 0 where
   pub low : 1 ≤ j
-  pub high : j ≤ X .filling r .count
+  pub high : j ≤ f .count
 
--- the child CAS of r cannot succeed any more: what it looks for is gone, and does not come back
-abbrev pub Past : View → ℕ → Type 0
-Past X r = linkOf X r ≢ oldChildOf X r
+-- the child CAS of a record cannot succeed any more: what it looks for is gone, and does not come back
+abbrev pub Past : View → Filling → Type 0
+Past X f = linkOf X f ≢ oldChildOf f
 
--- the word that r is to replace at place j is gone for good
-abbrev pub Passed : View → Ghost → ℕ → ℕ → Type 0
-Passed X G r j = G .stamp (oldOf X r j .info .0) < G .stamp (X .update (nodeOf X r j) .info .0)
+-- the word that is to be replaced at place j is gone for good
+abbrev pub Passed : View → Ghost → Filling → ℕ → Type 0
+Passed X G f j = G .stamp (oldOf f j .info .0) < G .stamp (X .update (nodeOf f j) .info .0)
 
-abbrev pub FrozeTo : View → Ghost → ℕ → ℕ → Type 0
-FrozeTo X G r j = (i : ℕ) → 1 ≤ i → i < j → G .froze r (nodeOf X r i) ≡ true
+abbrev pub FrozeTo : Ghost → ℕ → Filling → ℕ → Type 0
+FrozeTo G r f j = (i : ℕ) → 1 ≤ i → i < j → G .froze r (nodeOf f i) ≡ true
 
 -- all its nodes are frozen
-abbrev pub FrozeAll : View → Ghost → ℕ → Type 0
-FrozeAll X G r = (i : ℕ) → InList X r i → G .froze r (nodeOf X r i) ≡ true
+abbrev pub FrozeAll : Ghost → ℕ → Filling → Type 0
+FrozeAll G r f = (i : ℕ) → InList f i → G .froze r (nodeOf f i) ≡ true
 
--- frozen up to place k, and never at k: no freeze of r succeeds any more
-pub record Lost (X : View) (G : Ghost) (r : ℕ) : Type 0 where
+-- frozen up to some place, and never there: no freeze of r succeeds any more
+pub record Lost (X : View) (G : Ghost) (r : ℕ) (f : Filling) : Type 0 where
   pub at : ℕ
-  pub list : InList X r at
-  pub before : FrozeTo X G r at
-  pub not : G .froze r (nodeOf X r at) ≡ false
-  pub gone : Passed X G r at
+  pub list : InList f at
+  pub before : FrozeTo G r f at
+  pub not : G .froze r (nodeOf f at) ≡ false
+  pub gone : Passed X G f at
 
 -- in progress: ⊥ or TRY
 abbrev pub Live : View → ℕ → Type 0
@@ -95,6 +95,7 @@ KnownWord X u = (u .info .0 ≡ 0) ⊎ Filled X (u .info .0)
 
 -- a word u was read from node v: it stands there, or a later one does
 pub record Seen (X : View) (G : Ghost) (v : ℕ) (u : Update) : Type 0 where
+  pub used : v < X .nodes
   pub known : KnownWord X u
   pub since : (X .update v ≡ u) ⊎ (G .stamp (u .info .0) < G .stamp (X .update v .info .0))
 

@@ -21,8 +21,8 @@ pub record Sets (X : View) (G : Ghost) (r v : ℕ) (t : ℕ → Bool) : Type 0 w
   pub final : committed ≤ X .state r → committed ≤ v
   pub most : v ≤ aborted
   pub tried : t r ≡ true → trying ≤ v
-  pub commits : v ≡ committed → (t r ≡ true) × FrozeAll X G r × Past X r
-  pub aborts : v ≡ aborted → t r ≡ true → Lost X G r
+  pub commits : v ≡ committed → (t r ≡ true) × FrozeAll G r (X .filling r) × Past X (X .filling r)
+  pub aborts : v ≡ aborted → t r ≡ true → Lost X G r (X .filling r)
   pub other : (q : ℕ) → q ≢ r → t q ≡ G .tried q
 
 module _ (X : View) (G : Ghost) (H : Holds X G) (r v : ℕ) (t : ℕ → Bool) (S : Sets X G r v t) where
@@ -38,9 +38,6 @@ module _ (X : View) (G : Ghost) (H : Holds X G) (r v : ℕ) (t : ℕ → Bool) (
   filled-was : (q : ℕ) → Filled X′ q → Filled X q
   filled-was q g = record { used = g .used; some = g .some }
 
-  list-was : (q k : ℕ) → InList X′ q k → InList X q k
-  list-was q k g = record { low = g .low; high = g .high }
-
   pub live-was : (q : ℕ) → Live X′ q → Live X q
   live-was q = change-case (λ s. s < committed → X .state q < committed) (X .state) r v q (λ e h. rw e (S .live h)) (λ e h. h)
 
@@ -48,28 +45,29 @@ module _ (X : View) (G : Ghost) (H : Holds X G) (r v : ℕ) (t : ℕ → Bool) (
   final′ q = change-case (λ s. committed ≤ X .state q → committed ≤ s) (X .state) r v q (λ e h. S .final (rw (← e) h)) (λ e h. h)
 
   pub seen′ : (y : ℕ) (w : Update) → Seen X G y w → Seen X′ G′ y w
-  seen′ y w h = record { known = elim (h .known) [ inl e ↦ inl e | inr g ↦ inr (filled′ _ g) ]; since = h .since }
+  seen′ y w h = record { used = h .used; known = elim (h .known) [ inl e ↦ inl e | inr g ↦ inr (filled′ _ g) ]; since = h .since }
 
-  lost′ : (q : ℕ) → Lost X G q → Lost X′ G′ q
-  lost′ q h = record { at = h .at; list = record { low = h .list .low; high = h .list .high }; before = h .before; not = h .not; gone = h .gone }
+  lost′ : (q : ℕ) → Lost X G q (X .filling q) → Lost X′ G′ q (X .filling q)
+  lost′ q h = record { at = h .at; list = h .list; before = h .before; not = h .not; gone = h .gone }
 
-  held-was : (q k : ℕ) → Held X′ q k → Held X q k
+  held-was : (q k : ℕ) → Held X′ q (X .filling q) k → Held X q (X .filling q) k
   held-was q k h = record { open′ = h .open′; word = elim (h .word) [ inl e ↦ inl e | inr p ↦ inr (p .0, live-was q (p .1)) ] }
 
-  record′ : (q : ℕ) → Filled X′ q → RecordHolds X′ G′ q
+  record′ : (q : ℕ) → Filled X′ q → RecordHolds X′ G′ q (X .filling q)
   record′ q g =
-      let was : RecordHolds X G q = H .records q (filled-was q g) in
+      let was : RecordHolds X G q (X .filling q) = H .records q (filled-was q g) in
       record {
-        old-final = λ k i. final′ _ (was .old-final k (list-was q k i));
-        old-seen = λ k i. seen′ _ _ (was .old-seen k (list-was q k i));
-        old-stamp = λ k i. was .old-stamp k (list-was q k i);
+        old-final = λ k i. final′ _ (was .old-final k i);
+        old-seen = λ k i. seen′ _ _ (was .old-seen k i);
+        old-stamp = λ k i. was .old-stamp k i;
+        frozen = was .frozen;
         later = was .later;
         holds = λ y h live. was .holds y h (live-was q live);
         tried-state = by-equal q r (λ e. rw (e, change-same (X .state) r v) (S .tried)) (λ e. rw (S .other q e, change-other (X .state) r v q e) (was .tried-state));
         most = change-case (λ s. s ≤ aborted) (X .state) r v q (λ e. S .most) (λ e. was .most);
         commits = by-equal q r
-          (λ e h. rw e (let c = S .commits (sym (change-same (X .state) r v) ∙ (rw e at h)) in (c .0, (λ k i. c .1 k (list-was r k i)), c .2)))
-          (λ e h. let c = was .commits (sym (change-other (X .state) r v q e) ∙ h) in (S .other q e ∙ c .0, (λ k i. c .1 k (list-was q k i)), c .2));
+          (λ e h. rw e (let c = S .commits (sym (change-same (X .state) r v) ∙ (rw e at h)) in (c .0, (λ k i. c .1 k i), c .2)))
+          (λ e h. let c = was .commits (sym (change-other (X .state) r v q e) ∙ h) in (S .other q e ∙ c .0, (λ k i. c .1 k i), c .2));
         aborts = by-equal q r
           (λ e h d. rw e (lost′ r (S .aborts (sym (change-same (X .state) r v) ∙ (rw e at h)) (rw e at d))))
           (λ e h d. lost′ q (was .aborts (sym (change-other (X .state) r v q e) ∙ h) (sym (S .other q e) ∙ d)));
@@ -77,8 +75,8 @@ module _ (X : View) (G : Ghost) (H : Holds X G) (r v : ℕ) (t : ℕ → Bool) (
         most-listed = was .most-listed;
         first = was .first;
         second = was .second;
-        linked = λ k i. was .linked k (list-was q k i);
-        apart = λ a b i k. was .apart a b (list-was q a i) (list-was q b k);
+        linked = λ k i. was .linked k i;
+        apart = λ a b i k. was .apart a b i k;
         inner = was .inner;
         old-phase = was .old-phase;
         new-used = was .new-used;
@@ -88,14 +86,15 @@ module _ (X : View) (G : Ghost) (H : Holds X G) (r v : ℕ) (t : ℕ → Bool) (
         fresh = was .fresh;
         kind = kind′ (was .kind) }
     where
-      kind′ : Planted X G q ⊎ Copied X G q → Planted X′ G′ q ⊎ Copied X′ G′ q
+      kind′ : Planted X G q (X .filling q) ⊎ Copied X G q (X .filling q) → Planted X′ G′ q (X .filling q) ⊎ Copied X′ G′ q (X .filling q)
       kind′ (inl p) = inl (record { left = p .left; right = p .right; inner = p .inner; kids = p .kids; leaf-left = p .leaf-left; leaf-right = p .leaf-right; phase-left = p .phase-left; phase-right = p .phase-right; no-prev = p .no-prev; used = p .used; made = p .made; fresh = p .fresh; differ = p .differ })
       kind′ (inr c) = inr (record { four = c .four; side = c .side; inner = c .inner; sibling = λ h. c .sibling (held-was q 2 h); copy = λ e h. c .copy e (held-was q 4 h); kind = c .kind; phase = c .phase })
 
   pub state-holds : Holds X′ G′
   state-holds = record {
     records = record′;
-    unfilled = λ q l e. let was = H .unfilled q l e in (change-other (X .state) r v q (λ d. let some : 0 < X .filling q .count = rw d (S .filled .some) in omega arith) ∙ was .0, was .1);
+    unfilled = λ q l e. change-other (X .state) r v q (λ d. let some : 0 < X .filling q .count = rw d (S .filled .some) in omega arith) ∙ H .unfilled q l e;
+    blank = λ q n. let was = H .blank q (λ g. n (filled′ q g)) in (was .0, S .other q (λ e. n (rw e (filled′ r (S .filled)))) ∙ was .1, was .2);
     dummy = H .dummy; stamps = H .stamps;
     words = λ y b. let was = H .words y b in (elim (was .0) [ inl e ↦ inl e | inr g ↦ inr (filled′ _ g) ], was .1);
     used = H .used; kids = H .kids; prevs = H .prevs }
@@ -103,11 +102,11 @@ module _ (X : View) (G : Ghost) (H : Holds X G) (r v : ℕ) (t : ℕ → Bool) (
 -- ---- the four changes of HELP
 
 module _ (X : View) (G : Ghost) (H : Holds X G) (r : ℕ) (f : Filled X r) where
-  R : RecordHolds X G r
+  R : RecordHolds X G r (X .filling r)
   R = H .records r f
 
   -- a record that is lost is not frozen all over
-  pub lost-not-all : Lost X G r → FrozeAll X G r → ⊥
+  pub lost-not-all : Lost X G r (X .filling r) → FrozeAll G r (X .filling r) → ⊥
   lost-not-all h all = true≢false (sym (all (h .at) (h .list)) ∙ h .not)
 
   -- line 113
@@ -119,9 +118,9 @@ module _ (X : View) (G : Ghost) (H : Holds X G) (r : ℕ) (f : Filled X r) where
   sets-early e = record { filled = f; live = λ z. absurd (omega arith); final = λ _. omega arith; most = omega arith; tried = λ _. omega arith; commits = λ z. absurd (omega arith); aborts = λ _ t. let one : trying ≤ X .state r = R .tried-state t in absurd (omega arith); other = λ q ne. refl }
 
   -- line 124
-  pub sets-commit : G .tried r ≡ true → FrozeAll X G r → Past X r → Sets X G r committed (G .tried)
+  pub sets-commit : G .tried r ≡ true → FrozeAll G r (X .filling r) → Past X (X .filling r) → Sets X G r committed (G .tried)
   sets-commit t all past = record { filled = f; live = λ z. absurd (omega arith); final = λ _. omega arith; most = omega arith; tried = λ _. omega arith; commits = λ _. (t, all, past); aborts = λ z. absurd (omega arith); other = λ q ne. refl }
 
   -- line 126
-  pub sets-abort : Lost X G r → Sets X G r aborted (G .tried)
+  pub sets-abort : Lost X G r (X .filling r) → Sets X G r aborted (G .tried)
   sets-abort lost = record { filled = f; live = λ z. absurd (omega arith); final = λ _. omega arith; most = omega arith; tried = λ _. omega arith; commits = λ z. absurd (omega arith); aborts = λ _ t. lost; other = λ q ne. refl }
