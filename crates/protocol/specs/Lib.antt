@@ -3,4 +3,4 @@ pub mod Invariant
 pub mod Freeze
 pub mod SetState
 pub mod Link
-
+pub mod Fill
