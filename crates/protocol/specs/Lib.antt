@@ -4,3 +4,4 @@ pub mod Freeze
 pub mod SetState
 pub mod Link
 pub mod Fill
+pub mod Frame
