@@ -50,23 +50,23 @@ module _ (X : View) (G : Ghost) (H : Holds X G) (r : ℕ) (f : Filling) (F : Fil
   empty-not : Filled X r → ⊥
   empty-not g = omega (arith, g .some, F .empty)
 
-  differs : (q : ℕ) → Filled X q → q ≢ r
+  pub differs : (q : ℕ) → Filled X q → q ≢ r
   differs q g e = empty-not (rw (← e) g)
 
   -- another record is as it was
-  same : (q : ℕ) → q ≢ r → X′ .filling q ≡ X .filling q
+  pub same : (q : ℕ) → q ≢ r → X′ .filling q ≡ X .filling q
   same q ne = change-other (X .filling) r f q ne
 
   mine : X′ .filling r ≡ f
   mine = change-same (X .filling) r f
 
-  state-same : (q : ℕ) → q ≢ r → X′ .state q ≡ X .state q
+  pub state-same : (q : ℕ) → q ≢ r → X′ .state q ≡ X .state q
   state-same q ne = change-other (X .state) r undecided q ne
 
   stamp-same : (q : ℕ) → q ≢ r → G′ .stamp q ≡ G .stamp q
   stamp-same q ne = change-other (G .stamp) r (G .next) q ne
 
-  filled′ : (q : ℕ) → Filled X q → Filled X′ q
+  pub filled′ : (q : ℕ) → Filled X q → Filled X′ q
   filled′ q g = record { used = g .used; some = rw (same q (differs q g)) (g .some) }
 
   filled-was : (q : ℕ) → q ≢ r → Filled X′ q → Filled X q
@@ -124,7 +124,7 @@ module _ (X : View) (G : Ghost) (H : Holds X G) (r : ℕ) (f : Filling) (F : Fil
     stamp-q : G′ .stamp q ≡ G .stamp q
     stamp-q = stamp-same q ne
 
-    passed′ : (j : ℕ) → InList (X .filling q) j → Passed X G (X .filling q) j → Passed X′ G′ (X .filling q) j
+    pub passed′ : (j : ℕ) → InList (X .filling q) j → Passed X G (X .filling q) j → Passed X′ G′ (X .filling q) j
     passed′ j i p = rw (stamp-same _ (known-differs (oldOf (X .filling q) j) (was .old-seen j i .known)), word-stamp _ (was .old-seen j i .used)) p
 
     held-was : (j : ℕ) → Held X′ q (X .filling q) j → Held X q (X .filling q) j

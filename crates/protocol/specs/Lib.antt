@@ -5,3 +5,4 @@ pub mod SetState
 pub mod Link
 pub mod Fill
 pub mod Frame
+pub mod Rely
