@@ -82,13 +82,13 @@ module _ (X X′ : View) (G G′ : Ghost) (P : ℕ → Type 0) (H : Holds X G) (
     side-same : sideOf X′ (X .filling q) ≡ sideOf X (X .filling q)
     side-same = ap₂ (λ (a b : Fixed). ltb (value (a .rank)) (value (b .rank))) (A .fixed _ new-kept) (A .fixed _ par-kept)
 
-    link-same : linkOf X′ (X .filling q) ≡ linkOf X (X .filling q)
+    pub link-same : linkOf X′ (X .filling q) ≡ linkOf X (X .filling q)
     link-same = A .kid _ par-kept _ ∙ ap (λ s. X .kid s (parOf (X .filling q))) side-same
 
     state-same : X′ .state q ≡ X .state q
     state-same = A .state q (g .used)
 
-    word-same : (j : ℕ) → InList (X .filling q) j → X′ .update (nodeOf (X .filling q) j) ≡ X .update (nodeOf (X .filling q) j)
+    pub word-same : (j : ℕ) → InList (X .filling q) j → X′ .update (nodeOf (X .filling q) j) ≡ X .update (nodeOf (X .filling q) j)
     word-same j i = A .update _ (H .used _ (was .linked j i))
 
     held-was : (j : ℕ) → InList (X .filling q) j → Held X′ q (X .filling q) j → Held X q (X .filling q) j
@@ -117,7 +117,7 @@ module _ (X X′ : View) (G G′ : Ghost) (P : ℕ → Type 0) (H : Holds X G) (
           kind = rw (A .fixed _ new-kept, A .fixed _ (node-linked 4 four)) (c .kind);
           phase = rw (A .fixed _ (node-linked 4 four)) (c .phase) })
 
-    lost′ : Lost X G q (X .filling q) → Lost X′ G′ q (X .filling q)
+    pub lost′ : Lost X G q (X .filling q) → Lost X′ G′ q (X .filling q)
     lost′ h = record { at = h .at; list = h .list; before = λ i a b. rw (A .froze) (h .before i a b); not = rw (A .froze) (h .not); gone = rw (A .stamp, word-same (h .at) (h .list)) (h .gone) }
 
     record′ : RecordHolds X′ G′ q (X .filling q)

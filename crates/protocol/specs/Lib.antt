@@ -6,3 +6,4 @@ pub mod Link
 pub mod Fill
 pub mod Frame
 pub mod Rely
+pub mod RelyMore

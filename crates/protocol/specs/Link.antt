@@ -88,7 +88,7 @@ module _ (X : View) (G : Ghost) (H : Holds X G) (r : ℕ) (f : Filled X r) (t : 
   held-apart q k g i ne (inr p) d = let mine : X .update (nodeOf (X .filling q) k) .info .0 ≡ r = rw (d, ← R .first) (stands 1 first-in) in ne (sym (p .0) ∙ mine)
 
   -- the child CAS of another record: past stays past, and what is still to come was
-  past′ : (q : ℕ) → Filled X q → Past X (X .filling q) → Past X′ (X .filling q)
+  pub past′ : (q : ℕ) → Filled X q → Past X (X .filling q) → Past X′ (X .filling q)
   past′ q g was = kid-case (λ c. c ≢ oldChildOf (X .filling q)) (X .kid) (sideOf X (X .filling r)) (parOf (X .filling r)) (newChildOf (X .filling r)) (sideOf X (X .filling q)) (parOf (X .filling q)) (λ _ _ e. fresh-old e) was
     where
       fresh-old : newChildOf (X .filling r) ≢ oldChildOf (X .filling q)
