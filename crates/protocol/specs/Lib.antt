@@ -7,3 +7,4 @@ pub mod Fill
 pub mod Frame
 pub mod Rely
 pub mod RelyMore
+pub mod Helper
