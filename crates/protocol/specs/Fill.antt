@@ -84,7 +84,7 @@ module _ (X : View) (G : Ghost) (H : Holds X G) (r : ℕ) (f : Filling) (F : Fil
   word-stamp v l = stamp-same _ (known-differs (X .update v) (H .words v l .0))
 
   pub seen′ : (v : ℕ) (w : Update) → Seen X G v w → Seen X′ G′ v w
-  seen′ v w h = record { used = h .used; known = known′ w (h .known); since = elim (h .since) [ inl e ↦ inl e | inr p ↦ inr (rw (stamp-same _ (known-differs w (h .known)), word-stamp v (h .used)) p) ] }
+  seen′ v w h = record { used = h .used; known = known′ w (h .known); since = elim (h .since) [ inl e ↦ inl e | inr p ↦ inr (rw (stamp-same _ (known-differs w (h .known)), word-stamp v (h .used)) p) ]; mine = h .mine }
 
   pub final′ : (w : Update) → KnownWord X w → Final X w → Final X′ w
   final′ w k h = rw (state-same _ (known-differs w k)) h
@@ -97,6 +97,7 @@ module _ (X : View) (G : Ghost) (H : Holds X G) (r : ℕ) (f : Filling) (F : Fil
     old-seen = λ j i. seen′ _ _ (F .seen j (i .low) (i .high));
     old-stamp = λ j i. rw (change-same (G .stamp) r (G .next), stamp-same _ (known-differs (oldOf f j) (F .seen j (i .low) (i .high) .known))) (H .stamps _);
     frozen = λ v h. absurd (true≢false (sym h ∙ none .2 v));
+    in-order = λ v h. absurd (true≢false (sym h ∙ none .2 v));
     later = λ v h. absurd (true≢false (sym h ∙ none .2 v));
     holds = λ v h. absurd (true≢false (sym h ∙ none .2 v));
     tried-state = λ h. absurd (true≢false (sym h ∙ none .1));
@@ -140,6 +141,7 @@ module _ (X : View) (G : Ghost) (H : Holds X G) (r : ℕ) (f : Filling) (F : Fil
       old-seen = λ j i. seen′ _ _ (was .old-seen j i);
       old-stamp = λ j i. rw (stamp-q, stamp-same _ (known-differs (oldOf (X .filling q) j) (was .old-seen j i .known))) (was .old-stamp j i);
       frozen = was .frozen;
+      in-order = was .in-order;
       later = λ v h. rw (stamp-q, word-stamp v (was .frozen v h)) (was .later v h);
       holds = λ v h live. was .holds v h (rw (state-same q ne) at live);
       tried-state = λ h. rw (state-same q ne) (was .tried-state h);

@@ -55,7 +55,7 @@ module _ (X X′ : View) (G G′ : Ghost) (P : ℕ → Type 0) (H : Holds X G) (
   known′ u (inr f) = inr (filled′ _ f)
 
   pub seen′ : (v : ℕ) (u : Update) → Seen X G v u → Seen X′ G′ v u
-  seen′ v u h = record { used = omega (arith, h .used, A .nodes); known = known′ u (h .known); since = rw (A .update v (h .used), A .stamp) (h .since) }
+  seen′ v u h = record { used = omega (arith, h .used, A .nodes); known = known′ u (h .known); since = rw (A .update v (h .used), A .stamp) (h .since); mine = λ ne. rw (A .froze) (h .mine ne) }
 
   pub final′ : (u : Update) → KnownWord X u → Final X u → Final X′ u
   final′ u k h = rw (A .state _ (known-used u k)) h
@@ -126,6 +126,7 @@ module _ (X X′ : View) (G G′ : Ghost) (P : ℕ → Type 0) (H : Holds X G) (
       old-seen = λ j i. seen′ _ _ (was .old-seen j i);
       old-stamp = λ j i. rw (A .stamp) (was .old-stamp j i);
       frozen = λ v h. omega (arith, was .frozen v (rw (A .froze) at h), A .nodes);
+      in-order = λ v h. rw (A .froze) (was .in-order v (rw (A .froze) at h));
       later = λ v h. let z = rw (A .froze) at h in rw (A .stamp, A .update v (was .frozen v z)) (was .later v z);
       holds = λ v h live. let z = rw (A .froze) at h in rw (A .update v (was .frozen v z)) (was .holds v z (rw state-same at live));
       tried-state = λ h. rw state-same (was .tried-state (rw (A .tried) at h));

@@ -24,7 +24,7 @@ froze-was G r x q v = change-case (λ f. f v ≡ true → (G .froze q v ≡ true
   (λ e. change-case (λ b. b ≡ true → (G .froze q v ≡ true) ⊎ ((q ≡ r) × (v ≡ x))) (G .froze r) x true v (λ d h. inr (e, d)) (λ d h. inl (rw e h)))
   (λ e h. inl h)
 
-module _ (X : View) (G : Ghost) (H : Holds X G) (r j m : ℕ) (f : Filled X r) (l : InList (X .filling r) j) (live : Live X r) (hit : X .update (nodeOf (X .filling r) j) ≡ oldOf (X .filling r) j) where
+module _ (X : View) (G : Ghost) (H : Holds X G) (r j m : ℕ) (f : Filled X r) (l : InList (X .filling r) j) (live : Live X r) (hit : X .update (nodeOf (X .filling r) j) ≡ oldOf (X .filling r) j) (order : (j ≡ 1) ⊎ (G .froze r (nodeOf (X .filling r) 1) ≡ true)) where
   abbrev x : ℕ
   x = nodeOf (X .filling r) j
 
@@ -58,7 +58,7 @@ module _ (X : View) (G : Ghost) (H : Holds X G) (r j m : ℕ) (f : Filled X r) (
   stamp-up v = change-case (λ w. G .stamp (X .update v .info .0) ≤ G .stamp (w .info .0)) (X .update) x u v (λ e. rw e (omega (arith, rises))) (λ e. omega arith)
 
   pub seen′ : (v : ℕ) (w : Update) → Seen X G v w → Seen X′ G′ v w
-  seen′ v w h = record { used = h .used; known = known′ w (h .known); since = by-equal v x (λ e. inr (rw (e, change-same (X .update) x u) (older e (h .since)))) (λ e. rw (change-other (X .update) x u v e) (h .since)) }
+  seen′ v w h = record { used = h .used; known = known′ w (h .known); since = by-equal v x (λ e. inr (rw (e, change-same (X .update) x u) (older e (h .since)))) (λ e. rw (change-other (X .update) x u v e) (h .since)); mine = λ ne. froze-more G r x _ v (h .mine ne) }
     where
       older : v ≡ x → (X .update v ≡ w) ⊎ (G .stamp (w .info .0) < G .stamp (X .update v .info .0)) → G .stamp (w .info .0) < G .stamp r
       older e (inl p) = let same : X .update x ≡ w = rw (← e) p in rw (← same) rises
@@ -93,6 +93,13 @@ module _ (X : View) (G : Ghost) (H : Holds X G) (r j m : ℕ) (f : Filled X r) (
         old-seen = λ k i. seen′ _ _ (was .old-seen k i);
         old-stamp = λ k i. was .old-stamp k i;
         frozen = λ v h. elim (froze-was G r x q v h) [ inl p ↦ was .frozen v p | inr p ↦ rw (p .1) (H .used x (R .linked j l)) ];
+        in-order = λ v h. elim (froze-was G r x q v h) [
+          inl p ↦ froze-more G r x q _ (was .in-order v p)
+          | inr p ↦ elim order [
+            inl e ↦ rw (p .0, e, change-same (G .froze) r (change (G .froze r) (nodeOf (X .filling r) 1) true)) (change-same (G .froze r) (nodeOf (X .filling r) 1) true)
+            | inr e ↦ froze-more G r x q _ (rw (p .0) e)
+          ]
+        ];
         later = λ v h. elim (froze-was G r x q v h) [
           inl p ↦ omega (arith, was .later v p, stamp-up v)
           | inr p ↦ rw (p .0, p .1, change-same (X .update) x u) (omega arith)

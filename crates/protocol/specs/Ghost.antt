@@ -98,6 +98,7 @@ pub record Seen (X : View) (G : Ghost) (v : ℕ) (u : Update) : Type 0 where
   pub used : v < X .nodes
   pub known : KnownWord X u
   pub since : (X .update v ≡ u) ⊎ (G .stamp (u .info .0) < G .stamp (X .update v .info .0))
+  pub mine : u .info .0 ≢ 0 → G .froze (u .info .0) v ≡ true
 
 -- a word whose record is final
 abbrev pub Final : View → Update → Type 0

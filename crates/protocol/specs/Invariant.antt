@@ -51,6 +51,7 @@ pub record RecordHolds (X : View) (G : Ghost) (r : ℕ) (f : Filling) : Type 0 w
   pub old-stamp : (j : ℕ) → InList f j → G .stamp (oldOf f j .info .0) < G .stamp r
   -- the nodes that it has frozen
   pub frozen : (v : ℕ) → G .froze r v ≡ true → v < X .nodes
+  pub in-order : (v : ℕ) → G .froze r v ≡ true → G .froze r (nodeOf f 1) ≡ true
   pub later : (v : ℕ) → G .froze r v ≡ true → G .stamp r ≤ G .stamp (X .update v .info .0)
   pub holds : (v : ℕ) → G .froze r v ≡ true → Live X r → X .update v .info .0 ≡ r
   -- its state

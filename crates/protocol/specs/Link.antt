@@ -133,7 +133,7 @@ module _ (X : View) (G : Ghost) (H : Holds X G) (r : ℕ) (f : Filled X r) (t : 
     filled′ q g = record { used = g .used; some = g .some }
 
     pub seen′ : (y : ℕ) (w : Update) → Seen X G y w → Seen X′ G′ y w
-    seen′ y w h = record { used = h .used; known = elim (h .known) [ inl e ↦ inl e | inr g ↦ inr (filled′ _ g) ]; since = h .since }
+    seen′ y w h = record { used = h .used; known = elim (h .known) [ inl e ↦ inl e | inr g ↦ inr (filled′ _ g) ]; since = h .since; mine = h .mine }
 
     held-was : (q k : ℕ) → Filled X q → Held X′ q (X .filling q) k → (q ≢ r) × Held X q (X .filling q) k
     held-was q k g h = let o = open-was q g (h .open′) in (o .0, record { open′ = o .1; word = h .word })
@@ -146,6 +146,7 @@ module _ (X : View) (G : Ghost) (H : Holds X G) (r : ℕ) (f : Filled X r) (t : 
           old-seen = λ k i. seen′ _ _ (was .old-seen k i);
           old-stamp = λ k i. was .old-stamp k i;
           frozen = was .frozen;
+          in-order = was .in-order;
           later = was .later;
           holds = was .holds;
           tried-state = was .tried-state;

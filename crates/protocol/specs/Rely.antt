@@ -64,7 +64,7 @@ pub rely-counter : (w : ℕ) (X : View) (G : Ghost) (c : ℕ) → X .counter ≤
 rely-counter w X G c le = record {
   filled = λ r f. record { used = f .used; some = f .some }; filling = λ r f. refl; fixed = λ v l. refl; maker = λ v l. refl; owner = λ r l. refl; nodes = omega arith; records = omega arith; counter = le;
   linked = λ v h. h; froze = λ r v h. h; tried = λ r h. h;
-  seen = λ v u h. record { used = h .used; known = elim (h .known) [ inl e ↦ inl e | inr f ↦ inr (record { used = f .used; some = f .some }) ]; since = h .since };
+  seen = λ v u h. record { used = h .used; known = elim (h .known) [ inl e ↦ inl e | inr f ↦ inr (record { used = f .used; some = f .some }) ]; since = h .since; mine = h .mine };
   final = λ u k h. h; begun = λ r f h. h; past = λ r f h. h; passed = λ r j f i h. h;
   lost = λ r f h. record { at = h .at; list = h .list; before = h .before; not = h .not; gone = h .gone };
   kids = λ v h. inl (λ s. refl); unfilled = λ r l o h. h; unseen = λ r f o h. (h, refl, refl); mine = λ v l h m o u. (h, λ s. refl) }
@@ -77,14 +77,14 @@ counter-holds X G c H = record {
   used = H .used; kids = H .kids; prevs = H .prevs }
   where
     seen′ : (v : ℕ) (u : Update) → Seen X G v u → Seen (wCounter X c) G v u
-    seen′ v u h = record { used = h .used; known = elim (h .known) [ inl e ↦ inl e | inr f ↦ inr (record { used = f .used; some = f .some }) ]; since = h .since }
+    seen′ v u h = record { used = h .used; known = elim (h .known) [ inl e ↦ inl e | inr f ↦ inr (record { used = f .used; some = f .some }) ]; since = h .since; mine = h .mine }
 
     kind′ : (r : ℕ) → Planted X G r (X .filling r) ⊎ Copied X G r (X .filling r) → Planted (wCounter X c) G r (X .filling r) ⊎ Copied (wCounter X c) G r (X .filling r)
     kind′ r (inl p) = inl (record { left = p .left; right = p .right; inner = p .inner; kids = p .kids; leaf-left = p .leaf-left; leaf-right = p .leaf-right; phase-left = p .phase-left; phase-right = p .phase-right; no-prev = p .no-prev; used = p .used; made = p .made; fresh = p .fresh; differ = p .differ })
     kind′ r (inr d) = inr (record { four = d .four; side = d .side; inner = d .inner; sibling = λ h. d .sibling (record { open′ = h .open′; word = h .word }); copy = λ e h. d .copy e (record { open′ = h .open′; word = h .word }); kind = d .kind; phase = d .phase })
 
     again : (r : ℕ) → RecordHolds X G r (X .filling r) → RecordHolds (wCounter X c) G r (X .filling r)
-    again r was = record { old-final = was .old-final; old-seen = λ j i. seen′ _ _ (was .old-seen j i); old-stamp = was .old-stamp; frozen = was .frozen; later = was .later; holds = was .holds; tried-state = was .tried-state; most = was .most; commits = was .commits; aborts = λ e t. let h = was .aborts e t in record { at = h .at; list = h .list; before = h .before; not = h .not; gone = h .gone }; two = was .two; most-listed = was .most-listed; first = was .first; second = was .second; linked = was .linked; apart = was .apart; inner = was .inner; old-phase = was .old-phase; new-used = was .new-used; made = was .made; prev = was .prev; new-phase = was .new-phase; fresh = was .fresh; kind = kind′ r (was .kind) }
+    again r was = record { old-final = was .old-final; old-seen = λ j i. seen′ _ _ (was .old-seen j i); old-stamp = was .old-stamp; frozen = was .frozen; in-order = was .in-order; later = was .later; holds = was .holds; tried-state = was .tried-state; most = was .most; commits = was .commits; aborts = λ e t. let h = was .aborts e t in record { at = h .at; list = h .list; before = h .before; not = h .not; gone = h .gone }; two = was .two; most-listed = was .most-listed; first = was .first; second = was .second; linked = was .linked; apart = was .apart; inner = was .inner; old-phase = was .old-phase; new-used = was .new-used; made = was .made; prev = was .prev; new-phase = was .new-phase; fresh = was .fresh; kind = kind′ r (was .kind) }
 
 -- ---- a freeze CAS that succeeds
 
@@ -106,12 +106,12 @@ not-lost X G r j R l to hit h = elim (decLe (suc (h .at)) j) [
   ]
 ]
 
-pub rely-freeze : (w : ℕ) (X : View) (G : Ghost) (H : Holds X G) (r j m : ℕ) (f : Filled X r) (l : InList (X .filling r) j) (live : Live X r) (hit : X .update (nodeOf (X .filling r) j) ≡ oldOf (X .filling r) j) → (Lost X G r (X .filling r) → ⊥) → (Unseen G r → G .owner r ≡ w)
+pub rely-freeze : (w : ℕ) (X : View) (G : Ghost) (H : Holds X G) (r j m : ℕ) (f : Filled X r) (l : InList (X .filling r) j) (live : Live X r) (hit : X .update (nodeOf (X .filling r) j) ≡ oldOf (X .filling r) j) (order : (j ≡ 1) ⊎ (G .froze r (nodeOf (X .filling r) 1) ≡ true)) → (Lost X G r (X .filling r) → ⊥) → (Unseen G r → G .owner r ≡ w)
   → Rely w X (wUpdate X (nodeOf (X .filling r) j) (update m (recordNo r))) G (gFroze G r (nodeOf (X .filling r) j))
-rely-freeze w X G H r j m f l live hit alive own = record {
+rely-freeze w X G H r j m f l live hit order alive own = record {
   filled = λ q g. record { used = g .used; some = g .some }; filling = λ q g. refl; fixed = λ v l. refl; maker = λ v l. refl; owner = λ q l. refl; nodes = omega arith; records = omega arith; counter = omega arith;
   linked = λ v h. h; froze = λ q v h. froze-more G r (nodeOf (X .filling r) j) q v h; tried = λ q h. h;
-  seen = freeze.seen′ X G H r j m f l live hit;
+  seen = freeze.seen′ X G H r j m f l live hit order;
   final = λ u k h. h; begun = λ q g h. h; past = λ q g h. h;
   passed = λ q k g i h. omega (arith, up (nodeOf (X .filling q) k));
   lost = λ q g h. by-equal q r (λ e. absurd (alive (rw e at h))) (λ e. record { at = h .at; list = h .list; before = λ i a b. froze-more G r (nodeOf (X .filling r) j) q _ (h .before i a b); not = same q e _ ∙ h .not; gone = omega (arith, h .gone, up (nodeOf (X .filling q) (h .at))) });
@@ -120,7 +120,7 @@ rely-freeze w X G H r j m f l live hit alive own = record {
   mine = λ v l h k o u. (h, λ s. refl) }
   where
     up : (v : ℕ) → G .stamp (X .update v .info .0) ≤ G .stamp (change (X .update) (nodeOf (X .filling r) j) (update m (recordNo r)) v .info .0)
-    up = stamp-up X G H r j m f l live hit
+    up = stamp-up X G H r j m f l live hit order
 
     same : (q : ℕ) → q ≢ r → (v : ℕ) → gFroze G r (nodeOf (X .filling r) j) .froze q v ≡ G .froze q v
     same q ne v = ap (λ h. h v) (change-other (G .froze) r (change (G .froze r) (nodeOf (X .filling r) j) true) q ne)

@@ -42,7 +42,7 @@ module _ (w : ℕ) (X : View) (G : Ghost) (H : Holds X G) (r : ℕ) (f : Filled 
   rely-link = record {
     filled = λ q g. record { used = g .used; some = g .some }; filling = λ q g. refl; fixed = λ v l. refl; maker = λ v l. refl; owner = λ q l. refl; nodes = omega arith; records = omega arith; counter = omega arith;
     linked = more; froze = λ q v h. h; tried = λ q h. h;
-    seen = λ v u h. record { used = h .used; known = elim (h .known) [ inl e ↦ inl e | inr g ↦ inr (record { used = g .used; some = g .some }) ]; since = h .since };
+    seen = λ v u h. record { used = h .used; known = elim (h .known) [ inl e ↦ inl e | inr g ↦ inr (record { used = g .used; some = g .some }) ]; since = h .since; mine = h .mine };
     final = λ u k h. h; begun = λ q g h. h;
     past = linking.past′ X G H r f t all hit;
     passed = λ q k g i h. h;

@@ -45,7 +45,7 @@ module _ (X : View) (G : Ghost) (H : Holds X G) (r v : ℕ) (t : ℕ → Bool) (
   final′ q = change-case (λ s. committed ≤ X .state q → committed ≤ s) (X .state) r v q (λ e h. S .final (rw (← e) h)) (λ e h. h)
 
   pub seen′ : (y : ℕ) (w : Update) → Seen X G y w → Seen X′ G′ y w
-  seen′ y w h = record { used = h .used; known = elim (h .known) [ inl e ↦ inl e | inr g ↦ inr (filled′ _ g) ]; since = h .since }
+  seen′ y w h = record { used = h .used; known = elim (h .known) [ inl e ↦ inl e | inr g ↦ inr (filled′ _ g) ]; since = h .since; mine = h .mine }
 
   lost′ : (q : ℕ) → Lost X G q (X .filling q) → Lost X′ G′ q (X .filling q)
   lost′ q h = record { at = h .at; list = h .list; before = h .before; not = h .not; gone = h .gone }
@@ -61,6 +61,7 @@ module _ (X : View) (G : Ghost) (H : Holds X G) (r v : ℕ) (t : ℕ → Bool) (
         old-seen = λ k i. seen′ _ _ (was .old-seen k i);
         old-stamp = λ k i. was .old-stamp k i;
         frozen = was .frozen;
+        in-order = was .in-order;
         later = was .later;
         holds = λ y h live. was .holds y h (live-was q live);
         tried-state = by-equal q r (λ e. rw (e, change-same (X .state) r v) (S .tried)) (λ e. rw (S .other q e, change-other (X .state) r v q e) (was .tried-state));
