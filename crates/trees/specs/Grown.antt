@@ -17,6 +17,9 @@ unchanged {s = s} a o = record { to = s; tree = a; once = o; from = λ n j. inl 
 pub grown-as : {A B : Shape → Type 0} {M N : ℕ → Type 0} {s : Shape} → ((t : Shape) → A t → B t) → ((n : ℕ) → M n → N n) → Grown A M s → Grown B N s
 grown-as f g x = record { to = x .to; tree = f (x .to) (x .tree); once = x .once; from = λ n j. elim (x .from n j) [ inl a ↦ inl a | inr b ↦ inr (g n b) ] }
 
+pub grown-within : {A : Shape → Type 0} {New : ℕ → Type 0} {r s : Shape} → ((n : ℕ) → In n r → In n s) → Grown A New r → Grown A New s
+grown-within sub x = record { to = x .to; tree = x .tree; once = x .once; from = λ n j. elim (x .from n j) [ inl a ↦ inl (sub n a) | inr b ↦ inr b ] }
+
 -- new numbers come into s only if P, into t only if Q, and never into both
 module _ {A B : Shape → Type 0} {New : ℕ → Type 0} {P Q : Type 0} {s t : Shape} (never : P → Q → ⊥) (x : Grown A (λ n. New n × P) s) (y : Grown B (λ n. New n × Q) t) where
   apart : Apart s t → Free New (both s t) → Apart (x .to) (y .to)
