@@ -22,28 +22,25 @@ grown-within sub x = record { to = x .to; tree = x .tree; once = x .once; from =
 
 -- new numbers come into s only if P, into t only if Q, and never into both
 module _ {A B : Shape → Type 0} {New : ℕ → Type 0} {P Q : Type 0} {s t : Shape} (never : P → Q → ⊥) (x : Grown A (λ n. New n × P) s) (y : Grown B (λ n. New n × Q) t) where
-  apart : Apart s t → Free New (both s t) → Apart (x .to) (y .to)
-  apart ap free n j k = meet (x .from n j) (y .from n k)
+  pub apart-grown : Apart s t → Free New (both s t) → Apart (x .to) (y .to)
+  apart-grown apart free n j k = meet (x .from n j) (y .from n k)
     where
       meet : In n s ⊎ (New n × P) → In n t ⊎ (New n × Q) → ⊥
-      meet (inl a) (inl b) = ap n a b
+      meet (inl a) (inl b) = apart n a b
       meet (inl a) (inr b) = free n (b .0) (inl a)
       meet (inr a) (inl b) = free n (a .0) (inr b)
       meet (inr a) (inr b) = never (a .1) (b .1)
 
-  from-both : (n : ℕ) → In n (both (x .to) (y .to)) → In n (both s t) ⊎ (New n × (P ⊎ Q))
-  from-both n (inl j) = elim (x .from n j) [ inl a ↦ inl (inl a) | inr b ↦ inr (b .0, inl (b .1)) ]
-  from-both n (inr j) = elim (y .from n j) [ inl a ↦ inl (inr a) | inr b ↦ inr (b .0, inr (b .1)) ]
-
-  pub both-grown : {C : Shape → Type 0} → Once (both s t) → Free New (both s t) → (A (x .to) → B (y .to) → C (both (x .to) (y .to))) → Grown C (λ n. New n × (P ⊎ Q)) (both s t)
-  both-grown o free f = record { to = both (x .to) (y .to); tree = f (x .tree) (y .tree); once = (x .once, y .once, apart (o .2) free); from = from-both }
+  pub from-grown : (n : ℕ) → In n (both (x .to) (y .to)) → In n (both s t) ⊎ (New n × (P ⊎ Q))
+  from-grown n (inl j) = elim (x .from n j) [ inl a ↦ inl (inl a) | inr b ↦ inr (b .0, inl (b .1)) ]
+  from-grown n (inr j) = elim (y .from n j) [ inl a ↦ inl (inr a) | inr b ↦ inr (b .0, inr (b .1)) ]
 
   pub node-grown : {C : Shape → Type 0} {v : ℕ} → Once (node v s t) → Free New (node v s t) → (A (x .to) → B (y .to) → C (node v (x .to) (y .to))) → Grown C (λ n. New n × (P ⊎ Q)) (node v s t)
   node-grown {v} o free f = record {
     to = node v (x .to) (y .to);
     tree = f (x .tree) (y .tree);
-    once = (x .once, y .once, apart (o .2) (λ n e j. free n e (inr j)), λ j. out (from-both v (inl j)), λ j. out (from-both v (inr j)));
-    from = λ n. elim [ inl e ↦ inl (inl e) | inr j ↦ elim (from-both n j) [ inl a ↦ inl (inr a) | inr b ↦ inr b ] ];
+    once = (x .once, y .once, apart-grown (o .2) (λ n e j. free n e (inr j)), λ j. out (from-grown v (inl j)), λ j. out (from-grown v (inr j)));
+    from = λ n. elim [ inl e ↦ inl (inl e) | inr j ↦ elim (from-grown n j) [ inl a ↦ inl (inr a) | inr b ↦ inr b ] ];
   }
     where
       out : In v (both s t) ⊎ (New v × (P ⊎ Q)) → ⊥

@@ -6,3 +6,10 @@ pub mod Version
 pub mod Frame
 pub mod Change
 pub mod Updates
+pub mod Graft
+pub mod Been
+pub mod Scanning
+pub mod Moves
+pub mod ScanChange
+pub mod ScanFrame
+pub mod Bound

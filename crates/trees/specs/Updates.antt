@@ -9,7 +9,7 @@ use Rattle.laws.specs.Changed.{changeOn-other}
 use Rattle.trees.specs.Shape.{Shape, tip, node, In, Once, Free}
 use Rattle.trees.specs.Grown.{Grown, grown-as, grown-within}
 use Rattle.trees.specs.Version.{Store, setKid, Walk, here, Child, IsTree, leafT, nodeT, Reads, Side, tree-side, walk-stays}
-use Rattle.trees.specs.Change.{Replaces, walk-set, tree-without, Fits, fits-later}
+use Rattle.trees.specs.Change.{Replaces, walk-set, tree-without, Fits, later-fits}
 
 -- the new child is internal, with two leaves, all three of them new
 pub record Insert (S : Store) (d : Bool) (p new : ℕ) (New : ℕ → Type 0) : Type 0 where
@@ -40,8 +40,8 @@ module _ (S : Store) (d : Bool) (p new : ℕ) (New : ℕ → Type 0) where
   from-new : (i : ℕ) → Replaces S d p new → (S .phase new ≤ i → (q : Shape) → Reads S i (S .kid d p) q → (In p q → ⊥) → Once q → Free New q → Grown (IsTree (setKid S d p new) i new) New q)
       → Fits S d p new New i
   from-new i e f = elim (decLe (S .phase new) i) [
-    | yes h ↦ λ q r out once free. grown-as (λ x t. record { end = new; walk = here h; tree = t }) (λ n j. j) (f h q r out once free)
-    | no h ↦ fits-later S d p new (omega arith) e
+    | yes h ↦ record { read = λ q r out once free. grown-as (λ x t. record { end = new; walk = here h; tree = t }) (λ n j. j) (f h q r out once free) }
+    | no h ↦ later-fits (omega arith) e
   ]
 
   child-new : new ≢ p → (i : ℕ) (e : Bool) (c : ℕ) → Child S i e new c → Child (setKid S d p new) i e new c
