@@ -5,34 +5,27 @@ use mathlib.Core.Logic.{_≢_, _⊎_, inl, inr}
 use mathlib.Core.Bool.{Bool, true, false, true≢false, false≢true}
 use native.Mathlib.Omega.{arith}
 use native.Mathlib.Decide.{ℕ-discrete}
-use Rattle.laws.specs.Changed.{change, change-same, change-other, change-case, by-equal}
+use Rattle.laws.specs.Changed.{change, change-same, change-other, change-case, by-equal, changeOn, changeOn-same, changeOn-other, changeOn-case}
 use Rattle.shapes.specs.declared.Update.{Update}
 use Rattle.shapes.specs.declared.MaybeNode.{MaybeNode}
 use Rattle.shapes.specs.declared.MaybeNode.the-variants.{Absent, At}
 use Rattle.tables.specs.Names.{node}
 use Rattle.tables.specs.Records.{trying, committed, aborted}
-use Rattle.views.specs.View.{View, setKid, wKid}
+use Rattle.views.specs.View.{View, wKid}
 use Rattle.protocol.specs.Ghost.{Ghost, nodeOf, oldOf, parOf, oldChildOf, newChildOf, seqOf, sideOf, linkOf, Filled, InList, Past, Passed, FrozeTo, FrozeAll, Lost, Live, KnownWord, Seen, Final}
 use Rattle.protocol.specs.Invariant.{Planted, Held, Copied, RecordHolds, Holds}
 
 -- ---- one child changed
 
-pub kid-here : (K : Bool → ℕ → ℕ) (d : Bool) (x c : ℕ) → setKid K d x c d x ≡ c
-kid-here K true x c = change-same (K true) x c
-kid-here K false x c = change-same (K false) x c
+pub kid-here : (K : Bool → ℕ → ℕ) (d : Bool) (x c : ℕ) → changeOn K d x c d x ≡ c
+kid-here K d x c = changeOn-same K d x c
 
-pub kid-other : (K : Bool → ℕ → ℕ) (d : Bool) (x c : ℕ) (s : Bool) (v : ℕ) → v ≢ x → setKid K d x c s v ≡ K s v
-kid-other K true x c true v ne = change-other (K true) x c v ne
-kid-other K true x c false v ne = refl
-kid-other K false x c true v ne = refl
-kid-other K false x c false v ne = change-other (K false) x c v ne
+pub kid-other : (K : Bool → ℕ → ℕ) (d : Bool) (x c : ℕ) (s : Bool) (v : ℕ) → v ≢ x → changeOn K d x c s v ≡ K s v
+kid-other K d x c s v ne = changeOn-other K d x c s v (λ _ e. ne e)
 
 -- the new child there, the old one elsewhere
-pub kid-case {κ} : (Q : ℕ → Type κ) (K : Bool → ℕ → ℕ) (d : Bool) (x c : ℕ) (s : Bool) (v : ℕ) → (s ≡ d → v ≡ x → Q c) → Q (K s v) → Q (setKid K d x c s v)
-kid-case Q K true x c true v here old = change-case Q (K true) x c v (here refl) (λ _. old)
-kid-case Q K true x c false v here old = old
-kid-case Q K false x c true v here old = old
-kid-case Q K false x c false v here old = change-case Q (K false) x c v (here refl) (λ _. old)
+pub kid-case {κ} : (Q : ℕ → Type κ) (K : Bool → ℕ → ℕ) (d : Bool) (x c : ℕ) (s : Bool) (v : ℕ) → (s ≡ d → v ≡ x → Q c) → Q (K s v) → Q (changeOn K d x c s v)
+kid-case Q K d x c s v here old = changeOn-case K d x c Q s v here (λ _. old)
 
 abbrev pub gLinked : Ghost → (ℕ → Bool) → Ghost
 gLinked G l = record { stamp = G .stamp; next = G .next; froze = G .froze; tried = G .tried; linked = l; maker = G .maker; owner = G .owner }
@@ -72,7 +65,7 @@ module _ (X : View) (G : Ghost) (H : Holds X G) (r : ℕ) (f : Filled X r) (t : 
   apart m n a b e = true≢false (sym a ∙ rw (← e) b)
 
   abbrev K′ : Bool → ℕ → ℕ
-  K′ = setKid (X .kid) (sideOf X (X .filling r)) (parOf (X .filling r)) (newChildOf (X .filling r))
+  K′ = changeOn (X .kid) (sideOf X (X .filling r)) (parOf (X .filling r)) (newChildOf (X .filling r))
 
   abbrev X′ : View
   X′ = wKid X (sideOf X (X .filling r)) (parOf (X .filling r)) (newChildOf (X .filling r))

@@ -10,7 +10,7 @@ use Rattle.shapes.specs.declared.Filling.{Filling}
 use Rattle.shapes.specs.declared.MaybeNode.the-variants.{Absent, At}
 use Rattle.tables.specs.Names.{node}
 use Rattle.tables.specs.Records.{trying}
-use Rattle.views.specs.View.{View, setKid, wKid}
+use Rattle.views.specs.View.{View, wKid}
 use Rattle.protocol.specs.Ghost.{Ghost, nodeOf, oldOf, parOf, oldChildOf, newChildOf, seqOf, sideOf, linkOf, Filled, InList, Past, Passed, FrozeTo, FrozeAll, Lost, Live, KnownWord, Seen, Final}
 use Rattle.protocol.specs.Invariant.{RecordHolds, Holds}
 use Rattle.protocol.specs.Link.{kid-other, gLinked}

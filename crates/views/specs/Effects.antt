@@ -3,11 +3,11 @@ use Prim.Native.Nat.{ℕ, _+_, _≤_, _<_}
 use mathlib.Core.Path.{_≡_, refl, sym, ap, _∙_, fun-ext}
 use mathlib.Core.Logic.{_≢_}
 use mathlib.Core.List.{List}
-use mathlib.Core.Bool.{Bool, true, false}
+use mathlib.Core.Bool.{Bool, true, false, false≢true}
 use native.Mathlib.Omega.{arith}
 use lib.Dec.{ltb}
 use Rattle.laws.specs.Choice.{pick, fork}
-use Rattle.laws.specs.Changed.{change, change-is}
+use Rattle.laws.specs.Changed.{change, change-is, changeOn, changeOn-is, changeOn-same, changeOn-other, by-equal}
 use Rattle.shapes.specs.declared.NodeNo.{NodeNo}
 use Rattle.shapes.specs.declared.RecordNo.{RecordNo}
 use Rattle.shapes.specs.declared.Phase.{Phase}
@@ -26,18 +26,11 @@ use Rattle.tables.specs.Records.{recordWidth, undecided, aborted, unfilled, sta
 use Rattle.tables.specs.RecordWrites.{fillingAt, filling-setState, state-setState-same, state-setState-record, filling-newRecord-record, state-newRecord-record, filling-newRecord-same, state-newRecord-same}
 use Rattle.tables.specs.World.{Tables, tables}
 use Rattle.steps.specs.Apply.{bumped, taken, topOf, threeNodes, copyOf, takenRecord}
-use Rattle.views.specs.View.{View, view, setKid, wUpdate, wKid, wState, wRecord, wCounter, wNode, wUsed}
+use Rattle.views.specs.View.{View, view, wUpdate, wKid, wState, wRecord, wCounter, wNode, wUsed}
 
 -- two views are equal where their parts are
 view-is : (X Y : View) → X .update ≡ Y .update → X .fixed ≡ Y .fixed → X .kid ≡ Y .kid → X .state ≡ Y .state → X .filling ≡ Y .filling → X .nodes ≡ Y .nodes → X .records ≡ Y .records → X .counter ≡ Y .counter → X ≡ Y
 view-is X Y a b c d e f g h = λ i. record { update = a i; fixed = b i; kid = c i; state = d i; filling = e i; nodes = f i; records = g i; counter = h i }
-
-kids-are : (K L : Bool → ℕ → ℕ) → K true ≡ L true → K false ≡ L false → K ≡ L
-kids-are K L a b = fun-ext both
-  where
-    both : (s : Bool) → K s ≡ L s
-    both true = a
-    both false = b
 
 other-node : (x n : ℕ) → n ≢ x → node n .0 ≢ node x .0
 other-node x n ne e = ne e
@@ -53,24 +46,29 @@ module _ (t : Totals) (ns rs : List ℕ) (rows : ℕ) (has : HasRows nodeWidth n
 
   pub view-setChild : (x : NodeNo) (left : Bool) (c : NodeNo) → x .0 < rows → view (tables t (setChild ns x left c) rs) ≡ wKid (view (tables t ns rs)) left (x .0) (c .0)
   unfolding view
-  view-setChild x left c l = view-is _ _ (fun-ext (λ n. update-setChild ns x left c (node n))) (fun-ext (λ n. fixed-setChild ns x left c (node n))) (kids left) refl refl refl refl refl
+  view-setChild x left c l = view-is _ _ (fun-ext (λ n. update-setChild ns x left c (node n))) (fun-ext (λ n. fixed-setChild ns x left c (node n)))
+    (changeOn-is (λ s n. childAt ns (node n) s .0) left (x .0) (c .0) _ (ap (λ (y : NodeNo). y .0) (child-setChild-same ns x left c rows has l)) (λ s n ne. ap (λ (y : NodeNo). y .0) (elsewhere left s n ne)))
+    refl refl refl refl refl
     where
-      here : (d : Bool) → (λ n. childAt (setChild ns x d c) (node n) d .0) ≡ change (λ n. childAt ns (node n) d .0) (x .0) (c .0)
-      here d = change-is _ _ (x .0) (c .0) (ap (λ (y : NodeNo). y .0) (child-setChild-same ns x d c rows has l)) (λ n ne. ap (λ (y : NodeNo). y .0) (child-setChild-node ns x d c (node n) d ne))
-
-      kids : (d : Bool) → (λ s n. childAt (setChild ns x d c) (node n) s .0) ≡ setKid (λ s n. childAt ns (node n) s .0) d (x .0) (c .0)
-      kids true = kids-are _ _ (here true) (fun-ext (λ n. ap (λ (y : NodeNo). y .0) (child-setChild-side ns x c (node n))))
-      kids false = kids-are _ _ (fun-ext (λ n. ap (λ (y : NodeNo). y .0) (child-setChild-side′ ns x c (node n)))) (here false)
+      elsewhere : (d s : Bool) (n : ℕ) → (s ≡ d → n ≡ x .0 → ⊥) → childAt (setChild ns x d c) (node n) s ≡ childAt ns (node n) s
+      elsewhere true true n ne = child-setChild-node ns x true c (node n) true (ne refl)
+      elsewhere false false n ne = child-setChild-node ns x false c (node n) false (ne refl)
+      elsewhere true false n ne = child-setChild-side ns x c (node n)
+      elsewhere false true n ne = child-setChild-side′ ns x c (node n)
 
   pub view-newNode : (x : NodeNo) (kind : ℕ) (k : Rank) (q : Phase) (prev : MaybeNode) (left right : NodeNo) → x .0 < rows → view (tables t (newNode ns x kind k q prev left right) rs) ≡ wNode (view (tables t ns rs)) (x .0) (record { kind = kind; rank = k; phase = q .0; prev = prev }) (left .0) (right .0)
   unfolding view
   view-newNode x kind k q prev left right l = view-is _ _
       (change-is _ _ (x .0) freshWord (update-newNode-same ns x kind k q prev left right rows has l) (λ n ne. update-newNode-node ns x kind k q prev left right (node n) ne))
       (change-is _ _ (x .0) _ (fixed-newNode-same ns x kind k q prev left right rows has l) (λ n ne. fixed-newNode-node ns x kind k q prev left right (node n) ne))
-      (kids-are _ _
-      (change-is _ _ (x .0) (left .0) (ap (λ (y : NodeNo). y .0) (child-newNode-left ns x kind k q prev left right rows has l)) (λ n ne. ap (λ (y : NodeNo). y .0) (child-newNode-node ns x kind k q prev left right (node n) ne true)))
-      (change-is _ _ (x .0) (right .0) (ap (λ (y : NodeNo). y .0) (child-newNode-right ns x kind k q prev left right rows has l)) (λ n ne. ap (λ (y : NodeNo). y .0) (child-newNode-node ns x kind k q prev left right (node n) ne false))))
-      refl refl refl refl refl
+      (changeOn-is (changeOn (λ s n. childAt ns (node n) s .0) true (x .0) (left .0)) false (x .0) (right .0) _ (ap (λ (y : NodeNo). y .0) (child-newNode-right ns x kind k q prev left right rows has l)) elsewhere)
+    refl refl refl refl refl
+    where
+      elsewhere : (s : Bool) (n : ℕ) → (s ≡ false → n ≡ x .0 → ⊥) → childAt (newNode ns x kind k q prev left right) (node n) s .0 ≡ changeOn (λ s n. childAt ns (node n) s .0) true (x .0) (left .0) s n
+      elsewhere false n ne = ap (λ (y : NodeNo). y .0) (child-newNode-node ns x kind k q prev left right (node n) (ne refl) false) ∙ sym (changeOn-other (λ s n. childAt ns (node n) s .0) true (x .0) (left .0) false n (λ e d. false≢true e))
+      elsewhere true n ne = by-equal n (x .0)
+        (λ e. rw e (ap (λ (y : NodeNo). y .0) (child-newNode-left ns x kind k q prev left right rows has l) ∙ sym (changeOn-same (λ s n. childAt ns (node n) s .0) true (x .0) (left .0))))
+        (λ e. ap (λ (y : NodeNo). y .0) (child-newNode-node ns x kind k q prev left right (node n) e true) ∙ sym (changeOn-other (λ s n. childAt ns (node n) s .0) true (x .0) (left .0) true n (λ _ d. e d)))
 
 module _ (t : Totals) (ns rs : List ℕ) (rows : ℕ) (has : HasRows recordWidth rs rows) where
   pub view-setState : (r : RecordNo) (v : ℕ) → r .0 < rows → view (tables t ns (setState rs r v)) ≡ wState (view (tables t ns rs)) (r .0) v

@@ -2,7 +2,7 @@
 use Prim.Native.Nat.{ℕ}
 use mathlib.Core.Path.{_≡_, refl, fun-ext}
 use mathlib.Core.Bool.{Bool, true, false}
-use Rattle.laws.specs.Changed.{change}
+use Rattle.laws.specs.Changed.{change, changeOn}
 use Rattle.shapes.specs.declared.NodeNo.{NodeNo}
 use Rattle.shapes.specs.declared.RecordNo.{RecordNo}
 use Rattle.shapes.specs.declared.Update.{Update}
@@ -38,18 +38,11 @@ view s = record {
 
 -- ---- the writes
 
--- one child of one node
-abbrev pub setKid : (Bool → ℕ → ℕ) → Bool → ℕ → ℕ → Bool → ℕ → ℕ
-setKid K true x c true = change (K true) x c
-setKid K true x c false = K false
-setKid K false x c true = K true
-setKid K false x c false = change (K false) x c
-
 abbrev pub wUpdate : View → ℕ → Update → View
 wUpdate X x u = record { update = change (X .update) x u; fixed = X .fixed; kid = X .kid; state = X .state; filling = X .filling; nodes = X .nodes; records = X .records; counter = X .counter }
 
 abbrev pub wKid : View → Bool → ℕ → ℕ → View
-wKid X left x c = record { update = X .update; fixed = X .fixed; kid = setKid (X .kid) left x c; state = X .state; filling = X .filling; nodes = X .nodes; records = X .records; counter = X .counter }
+wKid X left x c = record { update = X .update; fixed = X .fixed; kid = changeOn (X .kid) left x c; state = X .state; filling = X .filling; nodes = X .nodes; records = X .records; counter = X .counter }
 
 abbrev pub wState : View → ℕ → ℕ → View
 wState X r v = record { update = X .update; fixed = X .fixed; kid = X .kid; state = change (X .state) r v; filling = X .filling; nodes = X .nodes; records = X .records; counter = X .counter }
@@ -62,7 +55,7 @@ wCounter X c = record { update = X .update; fixed = X .fixed; kid = X .kid; stat
 
 -- a new node, (FLAG, dummy) in its update word
 abbrev pub wNode : View → ℕ → Fixed → ℕ → ℕ → View
-wNode X n f left right = record { update = change (X .update) n freshWord; fixed = change (X .fixed) n f; kid = setKid (setKid (X .kid) true n left) false n right; state = X .state; filling = X .filling; nodes = X .nodes; records = X .records; counter = X .counter }
+wNode X n f left right = record { update = change (X .update) n freshWord; fixed = change (X .fixed) n f; kid = changeOn (changeOn (X .kid) true n left) false n right; state = X .state; filling = X .filling; nodes = X .nodes; records = X .records; counter = X .counter }
 
 -- so many nodes and records are used
 abbrev pub wUsed : View → ℕ → ℕ → View
