@@ -1,7 +1,7 @@
--- A function changed at one place.
+-- A function changed at one place: a number, or a side and a number.
 use mathlib.Core.Path.{_≡_, refl, sym, _∙_, fun-ext}
 use mathlib.Core.Logic.{_≢_}
-use mathlib.Core.Bool.{Bool, true, false}
+use mathlib.Core.Bool.{Bool, true, false, true≢false, false≢true, Bool·beq}
 use Prim.Native.Nat.{ℕ}
 use lib.Dec.{eqb}
 use borrow.Author.Tests.{eqb-true, eqb-false, eq-eqb, ne-eqb}
@@ -31,3 +31,26 @@ module _ {A : Type 0} where
 -- two numbers are equal or not
 pub by-equal {κ} : {A : Type κ} (m n : ℕ) → (m ≡ n → A) → (m ≢ n → A) → A
 by-equal {A = A} m n same other = fork {A = Bool} (λ b. A) (eqb m n) {x = true} {y = true} (λ e. same (eqb-true m n e)) (λ e. other (eqb-false m n e))
+
+-- ---- one function for each side, changed on one side only
+
+unfoldable pub changeOn : {A : Type 0} → (Bool → ℕ → A) → Bool → ℕ → A → Bool → ℕ → A
+changeOn f d k v e = pick (Bool·beq e d) (change (f e) k v) (f e)
+
+module _ {A : Type 0} (f : Bool → ℕ → A) where
+  pub changeOn-case {κ} : (d : Bool) (k : ℕ) (v : A) (Q : A → Type κ) (e : Bool) (n : ℕ) → (e ≡ d → n ≡ k → Q v) → ((e ≡ d → n ≡ k → ⊥) → Q (f e n)) → Q (changeOn f d k v e n)
+  unfolding changeOn pick
+  changeOn-case true k v Q true n here there = change-case Q (f true) k v n (here refl) (λ h. there (λ _. h))
+  changeOn-case false k v Q false n here there = change-case Q (f false) k v n (here refl) (λ h. there (λ _. h))
+  changeOn-case true k v Q false n here there = there (λ e. absurd (false≢true e))
+  changeOn-case false k v Q true n here there = there (λ e. absurd (true≢false e))
+
+  module _ (d : Bool) (k : ℕ) (v : A) where
+    pub changeOn-same : changeOn f d k v d k ≡ v
+    changeOn-same = changeOn-case d k v (λ x. x ≡ v) d k (λ _ _. refl) (λ h. absurd (h refl refl))
+
+    pub changeOn-other : (e : Bool) (n : ℕ) → (e ≡ d → n ≡ k → ⊥) → changeOn f d k v e n ≡ f e n
+    changeOn-other e n apart = changeOn-case d k v (λ x. x ≡ f e n) e n (λ s m. absurd (apart s m)) (λ _. refl)
+
+    pub changeOn-is : (g : Bool → ℕ → A) → g d k ≡ v → ((e : Bool) (n : ℕ) → (e ≡ d → n ≡ k → ⊥) → g e n ≡ f e n) → g ≡ changeOn f d k v
+    changeOn-is g here there = fun-ext (λ e. fun-ext (λ n. changeOn-case d k v (λ x. g e n ≡ x) e n (λ s m. rw (s, m) here) (there e n)))
