@@ -10,7 +10,7 @@ use borrow.Author.Tests.{le-leb}
 use Rattle.trees.specs.Members.{Mem, Distinct, All}
 use Rattle.trees.specs.Count.{count, distinct-count}
 use Rattle.trees.specs.Version.{Store}
-use Rattle.trees.specs.Scanning.{Stand, at, between, Scanning, current-new}
+use Rattle.trees.specs.Scanning.{Stand, at, Scanning, current-new}
 
 -- an internal node of phase i or earlier
 unfoldable pub early : Store → ℕ → ℕ → Bool

@@ -1,14 +1,14 @@
 -- All that is ahead of a scan lies in what its nodes lead to; a store that agrees there leaves the scan under way.
 use mathlib.Core.Path.{_≡_, refl}
 use mathlib.Core.Logic.{inl, inr}
-use mathlib.Core.List.{List, []}
+use mathlib.Core.List.{List}
 use mathlib.Core.Bool.{true, false}
 use Prim.Native.Nat.{ℕ}
-use Rattle.trees.specs.Members.{Mem, All}
+use Rattle.trees.specs.Members.{All}
 use Rattle.trees.specs.Shape.{Shape, both, In}
 use Rattle.trees.specs.Version.{Store}
 use Rattle.trees.specs.Frame.{Closed, Agree, walk-in, tree-in, child-frame, tree-frame}
-use Rattle.trees.specs.Been.{Been, been-changed}
+use Rattle.trees.specs.Been.{been-changed}
 use Rattle.trees.specs.Scanning.{Stand, at, between, Here, Pending, end, left, Scanning}
 
 abbrev pub StandIn : (ℕ → Type 0) → Stand → Type 0
