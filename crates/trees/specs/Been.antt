@@ -7,7 +7,6 @@ use Prim.Native.Nat.{ℕ, _≤_}
 use Rattle.trees.specs.Members.{Mem, Distinct, All}
 use Rattle.trees.specs.Shape.{Shape, In}
 use Rattle.trees.specs.Version.{Store}
-use Rattle.trees.specs.Frame.{Agree}
 
 -- vs are the internal nodes and ls the leaves that it has been to; us, of vs, are pending: their left child is still to be read
 pub record Been (S : Store) (i : ℕ) (us vs ls : List ℕ) (ahead : Shape) : Type 0 where

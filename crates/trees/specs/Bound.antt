@@ -10,7 +10,7 @@ use borrow.Author.Tests.{le-leb}
 use Rattle.trees.specs.Members.{Mem, Distinct, All}
 use Rattle.trees.specs.Count.{count, distinct-count}
 use Rattle.trees.specs.Version.{Store}
-use Rattle.trees.specs.Scanning.{Stand, at, between, Scanning, current-new}
+use Rattle.trees.specs.Scanning.{Stand, at, Scanning, current-new}
 
 -- an internal node of phase i or earlier
 unfoldable pub early : Store → ℕ → ℕ → Bool
@@ -20,7 +20,7 @@ pub is-early : (S : Store) (i n : ℕ) → S .leaf n ≡ false → S .phase n �
 unfolding early
 is-early S i n inner low = rw (inner, le-leb (S .phase n) i low)
 
-module _ {S : Store} {i used : ℕ} {us vs ls : List ℕ} where
+module _ (used : ℕ) {S : Store} {i : ℕ} {us vs ls : List ℕ} where
   -- internal nodes: xs is vs, or us
   pub visited-most : {stand : Stand} (xs : List ℕ) → Scanning S i stand us vs ls → Distinct xs → All (λ n. Mem n vs) xs → All (λ n. n < used) xs → length xs ≤ count used (early S i)
   visited-most xs G d of below = distinct-count used (early S i) xs d below (λ n m. is-early S i n (G .been .inner n (of n m)) (G .been .low n (of n m)))

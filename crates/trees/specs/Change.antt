@@ -3,10 +3,9 @@
 use mathlib.Core.Path.{_≡_, refl, sym, _∙_}
 use mathlib.Core.Logic.{_⊎_, inl, inr}
 use mathlib.Core.Bool.{Bool, true, false, true≢false}
-use Prim.Native.Nat.{ℕ, _≤_, _<_}
-use native.Mathlib.Omega.{arith}
+use Prim.Native.Nat.{ℕ, _<_}
 use Rattle.shapes.specs.declared.MaybeNode.the-variants.{At}
-use Rattle.laws.specs.Changed.{changeOn, changeOn-case}
+use Rattle.laws.specs.Changed.{changeOn-case}
 use Rattle.trees.specs.Shape.{Shape, node, In, Once, Free}
 use Rattle.trees.specs.Grown.{Grown, unchanged, grown-as, node-grown}
 use Rattle.trees.specs.Version.{Store, setKid, nodeNo, Walk, here, back, Child, IsTree, leafT, nodeT, Reads, tree-same}

@@ -9,7 +9,7 @@ use native.Mathlib.Decide.{decLe, ℕ-discrete}
 use lib.ListN.{length}
 use Rattle.laws.specs.Choice.{pick, fork}
 use Rattle.laws.specs.Changed.{change, change-same, change-other}
-use Rattle.trees.specs.Members.{Mem, Distinct, All}
+use Rattle.trees.specs.Members.{Distinct, All}
 
 -- 1 for a test that passes
 unfoldable pub one : Bool → ℕ

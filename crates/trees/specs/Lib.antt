@@ -13,3 +13,4 @@ pub mod Moves
 pub mod ScanChange
 pub mod ScanFrame
 pub mod Bound
+pub mod Examples

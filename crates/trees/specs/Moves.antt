@@ -1,14 +1,13 @@
 -- A scan under way goes on: from the root, by one child or both of an internal node, past a leaf, to a pending node's left child.
 use mathlib.Core.Path.{_≡_, refl, sym, _∙_}
-use mathlib.Core.Logic.{_⊎_, inl, inr}
+use mathlib.Core.Logic.{inl, inr}
 use mathlib.Core.List.{List, [], _∷_}
 use mathlib.Core.Bool.{Bool, true, false, true≢false}
 use Prim.Native.Nat.{ℕ, _≤_}
-use Rattle.trees.specs.Members.{Mem}
-use Rattle.trees.specs.Shape.{Shape, none, both, node, In, Once}
-use Rattle.trees.specs.Version.{Store, Child, IsTree, leafT, nodeT, walk-one, walk-low, tree-top, Reads, Side, tree-side}
+use Rattle.trees.specs.Shape.{Shape, none, both, node, Once}
+use Rattle.trees.specs.Version.{Store, Child, IsTree, leafT, nodeT, walk-one, walk-low, tree-top, Side, tree-side}
 use Rattle.trees.specs.Been.{Been, been-pushes, been-pops, been-visits, been-sees}
-use Rattle.trees.specs.Scanning.{Stand, at, between, Here, Pending, end, left, Scanning, pending-in, current-new}
+use Rattle.trees.specs.Scanning.{at, between, Pending, end, left, Scanning, current-new}
 
 pub scan-starts : {S : Store} {i root : ℕ} {s : Shape} → S .phase root ≤ i → IsTree S i root s → Once s → Scanning S i (at root) [] [] []
 scan-starts {s = s} low t o = record {
@@ -21,8 +20,8 @@ scan-starts {s = s} low t o = record {
 }
 
 -- line 143: the right child, with the left to follow
-pub goes-right : {S : Store} {i : ℕ} {us vs ls : List ℕ} {cur c : ℕ} → Scanning S i (at cur) us vs ls → S .leaf cur ≡ false → Child S i false cur c → Scanning S i (at c) (cur ∷ us) (cur ∷ vs) ls
-goes-right {S} {i} {us} {vs} {ls} {cur} {c} G inner w = of (G .reads .1) (G .once) (G .been)
+pub scan-pushes : {S : Store} {i : ℕ} {us vs ls : List ℕ} {cur c : ℕ} → Scanning S i (at cur) us vs ls → S .leaf cur ≡ false → Child S i false cur c → Scanning S i (at c) (cur ∷ us) (cur ∷ vs) ls
+scan-pushes {S} {i} {us} {vs} {ls} {cur} {c} G inner w = of (G .reads .1) (G .once) (G .been)
   where
     of : {s : Shape} → IsTree S i cur s → Once (both s (G .there)) → Been S i us vs ls (both s (G .there)) → Scanning S i (at c) (cur ∷ us) (cur ∷ vs) ls
     of (leafT h) o B = absurd (true≢false (sym h ∙ inner))
@@ -42,8 +41,8 @@ goes-right {S} {i} {us} {vs} {ls} {cur} {c} G inner w = of (G .reads .1) (G .onc
 
 module _ {S : Store} {i : ℕ} {us vs ls : List ℕ} where
   -- lines 141 and 142: one child alone
-  pub goes-alone : (e : Bool) {cur c : ℕ} → Scanning S i (at cur) us vs ls → S .leaf cur ≡ false → Child S i e cur c → Scanning S i (at c) us (cur ∷ vs) ls
-  goes-alone e {cur} {c} G inner w =
+  pub scan-visits : (e : Bool) {cur c : ℕ} → Scanning S i (at cur) us vs ls → S .leaf cur ≡ false → Child S i e cur c → Scanning S i (at c) us (cur ∷ vs) ls
+  scan-visits e {cur} {c} G inner w =
       let side : Side S i e cur (G .here) = tree-side e (G .reads .1) inner in
       record {
         here = side .part;
@@ -56,8 +55,8 @@ module _ {S : Store} {i : ℕ} {us vs ls : List ℕ} where
       }
 
   -- line 137: a leaf is done with
-  pub leaves : {cur : ℕ} → Scanning S i (at cur) us vs ls → S .leaf cur ≡ true → Scanning S i between us vs (cur ∷ ls)
-  leaves {cur} G h = record {
+  pub scan-sees : {cur : ℕ} → Scanning S i (at cur) us vs ls → S .leaf cur ≡ true → Scanning S i between us vs (cur ∷ ls)
+  scan-sees {cur} G h = record {
     here = none;
     there = G .there;
     reads = refl;
@@ -67,8 +66,8 @@ module _ {S : Store} {i : ℕ} {us vs ls : List ℕ} where
   }
 
 -- line 144: the left child of the node pushed last
-pub goes-left : {S : Store} {i : ℕ} {us vs ls : List ℕ} {u c : ℕ} → Scanning S i between (u ∷ us) vs ls → Child S i true u c → Scanning S i (at c) us vs ls
-goes-left {S} {i} {us} {vs} {ls} {u} {c} G w = of (G .rest) (G .once .1) (G .been)
+pub scan-pops : {S : Store} {i : ℕ} {us vs ls : List ℕ} {u c : ℕ} → Scanning S i between (u ∷ us) vs ls → Child S i true u c → Scanning S i (at c) us vs ls
+scan-pops {S} {i} {us} {vs} {ls} {u} {c} G w = of (G .rest) (G .once .1) (G .been)
   where
     of : {t : Shape} → Pending S i (u ∷ us) t → Once t → Been S i (u ∷ us) vs ls (both (G .here) t) → Scanning S i (at c) us vs ls
     of (left {s = s} {t = t} v y P) o B = record {

@@ -1,15 +1,15 @@
 -- A scan under way is still one after a change of one child that fits its version.
-use mathlib.Core.Path.{_≡_, refl, sym}
+use mathlib.Core.Path.{refl}
 use mathlib.Core.Logic.{_⊎_, inl, inr}
-use mathlib.Core.List.{List, [], _∷_}
-use mathlib.Core.Bool.{Bool, true, false}
-use Prim.Native.Nat.{ℕ, _≤_}
-use Rattle.trees.specs.Members.{Mem, All}
-use Rattle.trees.specs.Shape.{Shape, none, both, node, In, Once, Free}
+use mathlib.Core.List.{List}
+use mathlib.Core.Bool.{Bool, true}
+use Prim.Native.Nat.{ℕ}
+use Rattle.trees.specs.Members.{All}
+use Rattle.trees.specs.Shape.{Shape, both, node, In, Once, Free}
 use Rattle.trees.specs.Grown.{Grown, unchanged, grown-as, apart-grown, from-grown, node-grown}
-use Rattle.trees.specs.Version.{Store, setKid, IsTree, Reads}
+use Rattle.trees.specs.Version.{Store, setKid}
 use Rattle.trees.specs.Change.{Fits, Met, met-in, met-apart, child-changed, tree-changed}
-use Rattle.trees.specs.Been.{Been, been-changed}
+use Rattle.trees.specs.Been.{been-changed}
 use Rattle.trees.specs.Scanning.{Stand, at, between, Here, Pending, end, left, Scanning}
 
 module _ {S : Store} {d : Bool} {p new : ℕ} {New : ℕ → Type 0} {i : ℕ} (fits : Fits S d p new New i) where

@@ -1,14 +1,14 @@
 -- All that is ahead of a scan lies in what its nodes lead to; a store that agrees there leaves the scan under way.
 use mathlib.Core.Path.{_≡_, refl}
 use mathlib.Core.Logic.{inl, inr}
-use mathlib.Core.List.{List, []}
+use mathlib.Core.List.{List}
 use mathlib.Core.Bool.{true, false}
 use Prim.Native.Nat.{ℕ}
-use Rattle.trees.specs.Members.{Mem, All}
+use Rattle.trees.specs.Members.{All}
 use Rattle.trees.specs.Shape.{Shape, both, In}
 use Rattle.trees.specs.Version.{Store}
 use Rattle.trees.specs.Frame.{Closed, Agree, walk-in, tree-in, child-frame, tree-frame}
-use Rattle.trees.specs.Been.{Been, been-changed}
+use Rattle.trees.specs.Been.{been-changed}
 use Rattle.trees.specs.Scanning.{Stand, at, between, Here, Pending, end, left, Scanning}
 
 abbrev pub StandIn : (ℕ → Type 0) → Stand → Type 0
@@ -43,9 +43,9 @@ module _ {S : Store} {U : ℕ → Type 0} (closed : Closed S U) where
     pending-frame : {i : ℕ} {us : List ℕ} {t : Shape} → All U us → All (λ n. S .leaf n ≡ false) us → Pending S i us t → Pending T i us t
     pending-frame known inner end = end
     pending-frame {i} known inner (left {u = u} {c = c} w y P) =
-        let uu : U u = known u (inl refl) in
-        let ui : S .leaf u ≡ false = inner u (inl refl) in
-        left (child-frame closed agree i true u c uu ui w) (tree-frame closed agree (walk-in closed (closed .kid true u uu ui) w) y) (pending-frame (λ m k. known m (inr k)) (λ m k. inner m (inr k)) P)
+        let known-u : U u = known u (inl refl) in
+        let inner-u : S .leaf u ≡ false = inner u (inl refl) in
+        left (child-frame closed agree i true u c known-u inner-u w) (tree-frame closed agree (walk-in closed (closed .kid true u known-u inner-u) w) y) (pending-frame (λ m k. known m (inr k)) (λ m k. inner m (inr k)) P)
 
     pub scan-frame : {i : ℕ} {stand : Stand} {us vs ls : List ℕ} → Scanning S i stand us vs ls → StandIn U stand → All U vs → All U ls → Scanning T i stand us vs ls
     scan-frame {i} {stand} G u known known-leaves = record {

@@ -1,12 +1,12 @@
 -- A scan of phase i under way: where it stands, what is ahead of it, and where it has been.
-use mathlib.Core.Path.{_≡_, refl}
+use mathlib.Core.Path.{_≡_}
 use mathlib.Core.Logic.{inl, inr}
 use mathlib.Core.List.{List, [], _∷_}
 use mathlib.Core.Bool.{Bool, true, false}
 use Prim.Native.Nat.{ℕ, _≤_}
-use Rattle.trees.specs.Members.{Mem, Distinct, All}
+use Rattle.trees.specs.Members.{Mem, Distinct}
 use Rattle.trees.specs.Shape.{Shape, none, both, node, In, Once}
-use Rattle.trees.specs.Version.{Store, Child, IsTree, tree-top, Reads, Side, tree-side}
+use Rattle.trees.specs.Version.{Store, Child, IsTree, tree-top, tree-side}
 use Rattle.trees.specs.Been.{Been}
 
 -- at a node; or done with a leaf, and before the left child of the node pushed last

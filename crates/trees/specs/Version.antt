@@ -7,8 +7,8 @@ use native.Mathlib.Omega.{arith}
 use native.Mathlib.Decide.{decLe}
 use Rattle.shapes.specs.declared.NodeNo.{NodeNo}
 use Rattle.shapes.specs.declared.MaybeNode.{MaybeNode}
-use Rattle.shapes.specs.declared.MaybeNode.the-variants.{Absent, At}
-use Rattle.laws.specs.Changed.{changeOn}
+use Rattle.shapes.specs.declared.MaybeNode.the-variants.{At}
+use Rattle.laws.specs.Changed.{changeOn, changeOn-is}
 use Rattle.trees.specs.Shape.{Shape, tip, node, In, Once}
 
 -- the nodes as the trees see them; kid true is the left child, kid false the right
@@ -21,6 +21,10 @@ pub record Store : Type 0 where
 -- one child changed
 abbrev pub setKid : Store → Bool → ℕ → ℕ → Store
 setKid S d p c = record { phase = S .phase; prev = S .prev; leaf = S .leaf; kid = changeOn (S .kid) d p c }
+
+pub setKid-is : (S T : Store) (d : Bool) (p c : ℕ) → T .phase ≡ S .phase → T .prev ≡ S .prev → T .leaf ≡ S .leaf → T .kid d p ≡ c
+    → ((e : Bool) (n : ℕ) → (e ≡ d → n ≡ p → ⊥) → T .kid e n ≡ S .kid e n) → T ≡ setKid S d p c
+setKid-is S T d p c phase prev leaf here there = λ j. record { phase = phase j; prev = prev j; leaf = leaf j; kid = changeOn-is (S .kid) d p c (T .kid) here there j }
 
 abbrev pub nodeNo : ℕ → NodeNo
 nodeNo n = record { 0 = n }
