@@ -11,3 +11,5 @@ pub mod Turn
 pub mod Opened
 pub mod Play
 pub mod Evenings
+pub mod Hands
+pub mod Errors

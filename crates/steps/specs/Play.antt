@@ -1,15 +1,19 @@
 -- Evenings played from fresh tables, as 01 tells them.
-use Prim.Native.Nat.{ℕ, _+_, _*_}
-use mathlib.Core.List.{List}
+use Prim.Native.Nat.{ℕ, zero, suc, _+_, _*_}
+use mathlib.Core.List.{List, [], _∷_, _++_}
 use lib.ListN.{replicate, take, drop}
 use lib.IntN.{ℤ, pos}
 use Rattle.shapes.specs.declared.Outcome.{Outcome}
+use Rattle.shapes.specs.declared.Place.{Place}
+use Rattle.shapes.specs.declared.Operation.the-variants.{Insert, Delete, Find, Scan}
+use Rattle.shapes.specs.declared.Condition.{Condition}
+use Rattle.shapes.specs.declared.Condition.the-variants.{Idle, Busy}
 use Rattle.tables.specs.Names.{keyOf}
 use Rattle.tables.specs.Nodes.{nodeWidth}
 use Rattle.tables.specs.Records.{recordWidth}
-use Rattle.tables.specs.World.{World, totalsOf, idle, spot}
+use Rattle.tables.specs.World.{World, totalsOf, idle, workerAt, spot}
 use Rattle.tables.specs.Fresh.{freshOf}
-use Rattle.steps.specs.Turn.{Ran, insertOf, deleteOf, findOf, scanOf, runFrom}
+use Rattle.steps.specs.Turn.{Ran, turnOf, insertOf, deleteOf, findOf, scanOf, runFrom}
 
 -- tables for N, M and three workers, lent full of nines, a few places longer than they need be
 abbrev pub lent : ℕ → ℕ → World
@@ -66,3 +70,26 @@ show r = shown (r .outcome) (r .turns) (totalsOf (r .world) .nodes) (totalsOf (r
 -- the first k found keys of worker w
 unfoldable pub keysOf : ℕ → ℕ → Ran → List ℤ
 keysOf k w r = take k (drop (spot (totalsOf (r .world)) w 0) (r .world .found))
+
+-- ---- evenings of many steps
+
+-- worker w takes k turns, or all that it has
+unfoldable pub took : ℕ → ℕ → World → World
+took k w s = turnsAfter 0 k w s .world
+
+unfoldable pub done : ℕ → World → World
+done w s = answer w s .world
+
+unfoldable pub placeIn : Condition → List Place
+placeIn Idle = []
+placeIn (Busy (Insert k q)) = q ∷ []
+placeIn (Busy (Delete k q)) = q ∷ []
+placeIn (Busy (Find k q)) = q ∷ []
+placeIn (Busy (Scan a b q)) = q ∷ []
+
+-- the places of worker w's next k turns, in order
+unfoldable pub placesOf : ℕ → ℕ → World → List Place
+placesOf zero w s = []
+placesOf (suc k) w s =
+    let rest = placesOf k w (turnOf s w .world) in
+    placeIn (workerAt s w .condition) ++ rest
