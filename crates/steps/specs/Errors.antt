@@ -20,7 +20,7 @@ use Rattle.tables.specs.Records.{countAt, stateAt}
 use Rattle.steps.specs.Hand.{atRoot}
 use Rattle.steps.specs.Turn.{Ran, turnOf, findOf, runOf}
 use Rattle.steps.specs.Opened.{stepsOpened}
-use Rattle.steps.specs.Play.{fresh, insert, delete, find, scans, turnsAfter, answer, toTheEnd, shown, show, took, done}
+use Rattle.steps.specs.Play.{fresh, insert, delete, find, scans, turnsAfter, answer, toTheEnd, shown, show, onward, took, done}
 use Rattle.steps.specs.Hands.{withNode, withWorker, busy, markWord}
 
 -- a scan of phase 0 has taken two turns; insert 5 passes whole, in phase 1; the scan goes on
@@ -61,7 +61,7 @@ pub record Errors : Type 0 where
   pub markWithCommit : show staleFind ≡ shown (Said No) 23 14 6 0
 
 pub errors : Errors
-unfolding stepsOpened fresh insert delete find scans turnsAfter answer show took done oldScan markedRoot markedLeaf staleFind
+unfolding stepsOpened fresh insert delete find scans turnsAfter answer show onward took done oldScan markedRoot markedLeaf staleFind
 errors = record { newestChild = refl; onlyTheRecord103 = refl; onlyTheRecord117 = refl; markWithCommit = refl }
 
 -- ---- the five programs that must be rejected
@@ -141,7 +141,7 @@ pub record Rejected : Type 0 where
       (6 ∷ 5 ∷ 0 ∷ 1 ∷ 1 ∷ 1 ∷ 2 ∷ 2 ∷ []) ∷ []
 
 pub rejected : Rejected
-unfolding stepsOpened fresh insert find turnsAfter answer took done starts5 seen diary isRefused isYes
+unfolding stepsOpened fresh insert find turnsAfter answer onward took done starts5 seen diary isRefused isYes
 rejected = record {
   refusesAlways = λ r same. true≢false (ap (λ (d : Left). isRefused (d .outcome)) (same starts5 0));
   neverYes = λ never. false≢true (never toTheEnd 0 (done 0 starts5) (keyOf (pos 5)));

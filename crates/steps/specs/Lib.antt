@@ -13,3 +13,5 @@ pub mod Play
 pub mod Evenings
 pub mod Hands
 pub mod Errors
+pub mod Deletes
+pub mod Helping

@@ -1,9 +1,13 @@
 -- Evenings played from fresh tables, as 01 tells them.
 use Prim.Native.Nat.{ℕ, zero, suc, _+_, _*_}
 use mathlib.Core.List.{List, [], _∷_, _++_}
+use mathlib.Core.Bool.{Bool, true, false, _&&_}
+use lib.Dec.{eqb}
 use lib.ListN.{replicate, take, drop}
 use lib.IntN.{ℤ, pos}
+use Rattle.laws.specs.Choice.{pick}
 use Rattle.shapes.specs.declared.Outcome.{Outcome}
+use Rattle.shapes.specs.declared.Outcome.the-variants.{Going, Said, Refused}
 use Rattle.shapes.specs.declared.Place.{Place}
 use Rattle.shapes.specs.declared.Operation.the-variants.{Insert, Delete, Find, Scan}
 use Rattle.shapes.specs.declared.Condition.{Condition}
@@ -11,9 +15,9 @@ use Rattle.shapes.specs.declared.Condition.the-variants.{Idle, Busy}
 use Rattle.tables.specs.Names.{keyOf}
 use Rattle.tables.specs.Nodes.{nodeWidth}
 use Rattle.tables.specs.Records.{recordWidth}
-use Rattle.tables.specs.World.{World, totalsOf, idle, workerAt, spot}
+use Rattle.tables.specs.World.{World, Tables, totalsOf, idle, workerAt, spot}
 use Rattle.tables.specs.Fresh.{freshOf}
-use Rattle.steps.specs.Turn.{Ran, turnOf, insertOf, deleteOf, findOf, scanOf, runFrom}
+use Rattle.steps.specs.Turn.{Ran, stepOf, insertOf, deleteOf, findOf, scanOf, runFrom}
 
 -- tables for N, M and three workers, lent full of nines, a few places longer than they need be
 abbrev pub lent : ℕ → ℕ → World
@@ -71,14 +75,24 @@ show r = shown (r .outcome) (r .turns) (totalsOf (r .world) .nodes) (totalsOf (r
 unfoldable pub keysOf : ℕ → ℕ → Ran → List ℤ
 keysOf k w r = take k (drop (spot (totalsOf (r .world)) w 0) (r .world .found))
 
--- ---- evenings of many steps
+-- ---- how an evening comes to where it is told from: turns of which nobody asks whether the tables are sound
+
+-- on with the rest, unless worker w has answered or is refused
+unfoldable pub onward : Outcome → World → World → World
+onward Going s rest = rest
+onward (Said a) s rest = s
+onward (Refused r) s rest = s
 
 -- worker w takes k turns, or all that it has
 unfoldable pub took : ℕ → ℕ → World → World
-took k w s = turnsAfter 0 k w s .world
+took zero w s = s
+took (suc k) w s =
+    let d = stepOf s w in
+    let rest = took k w (d .world) in
+    onward (d .outcome) (d .world) rest
 
 unfoldable pub done : ℕ → World → World
-done w s = answer w s .world
+done w s = took toTheEnd w s
 
 unfoldable pub placeIn : Condition → List Place
 placeIn Idle = []
@@ -91,5 +105,21 @@ placeIn (Busy (Scan a b q)) = q ∷ []
 unfoldable pub placesOf : ℕ → ℕ → World → List Place
 placesOf zero w s = []
 placesOf (suc k) w s =
-    let rest = placesOf k w (turnOf s w .world) in
+    let rest = placesOf k w (stepOf s w .world) in
     placeIn (workerAt s w .condition) ++ rest
+
+-- ---- the same as before
+
+unfoldable pub sameList : List ℕ → List ℕ → Bool
+sameList [] [] = true
+sameList [] (y ∷ ys) = false
+sameList (x ∷ xs) [] = false
+sameList (x ∷ xs) (y ∷ ys) =
+    let rest = sameList xs ys in
+    pick (eqb x y) rest false
+
+unfoldable pub sameTables : Tables → Tables → Bool
+sameTables s t =
+    let a = s .totals in
+    let b = t .totals in
+    sameList (a .n ∷ a .m ∷ a .p ∷ a .nodes ∷ a .records ∷ a .counter ∷ []) (b .n ∷ b .m ∷ b .p ∷ b .nodes ∷ b .records ∷ b .counter ∷ []) && (sameList (s .nodes) (t .nodes) && sameList (s .records) (t .records))
