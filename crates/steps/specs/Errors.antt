@@ -21,6 +21,7 @@ use Rattle.steps.specs.Hand.{atRoot}
 use Rattle.steps.specs.Turn.{Ran, turnOf, findOf, runOf}
 use Rattle.steps.specs.Opened.{stepsOpened}
 use Rattle.steps.specs.Play.{fresh, insert, delete, find, scans, turnsAfter, answer, toTheEnd, shown, show, onward, took, done}
+use Rattle.steps.specs.Kept.{isRefused}
 use Rattle.steps.specs.Hands.{withNode, withWorker, busy, markWord}
 
 -- a scan of phase 0 has taken two turns; insert 5 passes whole, in phase 1; the scan goes on
@@ -83,11 +84,6 @@ diary zero s = []
 diary (suc k) s =
     let t = turnOf s 0 .world in
     seen t ∷ diary k t
-
-unfoldable pub isRefused : Outcome → Bool
-isRefused Going = false
-isRefused (Said a) = false
-isRefused (Refused r) = true
 
 unfoldable pub isYes : Outcome → Bool
 isYes Going = false

@@ -15,3 +15,6 @@ pub mod Hands
 pub mod Errors
 pub mod Deletes
 pub mod Helping
+pub mod Corners
+pub mod Kept
+pub mod Refusals
