@@ -18,3 +18,5 @@ pub mod Helping
 pub mod Corners
 pub mod Kept
 pub mod Refusals
+pub mod Crooked
+pub mod Spoiled
