@@ -1,8 +1,9 @@
 -- 01, 'Crooked means', case by case on tables made by hand: refusal 7, and all as before. Beside each, what is not crooked.
 use Prim.Native.Nat.{ℕ}
 use mathlib.Core.Path.{_≡_, refl}
-use mathlib.Core.List.{List, [], _∷_, map}
-use lib.ListN.{replicate}
+use mathlib.Core.Bool.{true, _&&_}
+use mathlib.Core.List.{List, [], _∷_, map, flatten}
+use lib.ListN.{replicate, take}
 use lib.IntN.{ℤ, pos}
 use Rattle.shapes.specs.declared.Key.{Key}
 use Rattle.shapes.specs.declared.Locals.{Locals}
@@ -21,20 +22,47 @@ use Rattle.shapes.specs.declared.Outcome.{Outcome}
 use Rattle.shapes.specs.declared.Outcome.the-variants.{Going, Said, Refused}
 use Rattle.shapes.specs.declared.Answer.the-variants.{Yes, No, Keys}
 use Rattle.tables.specs.Names.{node, recordNo, phase, flag, update, keyOf}
-use Rattle.tables.specs.World.{World}
+use Rattle.tables.specs.World.{World, idle}
 use Rattle.tables.specs.Fresh.{refused}
 use Rattle.steps.specs.Hand.{atNode, atWord, holding, withUp, withPup, withI, withSibling, withTaken}
 use Rattle.steps.specs.Turn.{turnOf}
 use Rattle.steps.specs.Kept.{turn-keeps}
 use Rattle.steps.specs.Opened.{stepsOpened}
-use Rattle.steps.specs.Play.{fresh, insert, delete, turnsAfter, answer, shown, show, onward, took, done}
-use Rattle.steps.specs.Hands.{withNode, withCounter, withUsed, withWorker, withPending, busy, doing, hand, classWord, keyWord, phaseWord}
+use Rattle.steps.specs.Play.{fresh, insert, delete, turnsAfter, answer, shown, show, stepped, took, done, sameList}
+use Rattle.steps.specs.Hands.{withNode, withCounter, withWorker, withPending, busy, doing, hand, classWord, keyWord, phaseWord}
 use Rattle.steps.specs.Deletes.{two}
 
--- 5 and 3, N = 9 (Deletes.two): internal are the Root 0, 5 (∞1) and 8 (key 5, prev 3); leaves are 6 (key 3), 7 (key 5), 4 and 2, and in older
--- versions 1 and 3; records 1 and 2 are filled; record 3 is taken and unfilled, its state ⊥
+-- what insert 5 and insert 3 leave (Deletes.two), with N = 9, M = 4 and P = 1, row by row: kind, class, key, phase, prev or not, prev, left,
+-- right, update word. Internal are the Root 0, 5 and 8; leaves are 6 (key 3), 7 (key 5), 4 and 2, and in older versions 1 and 3.
+abbrev pub rows : List (List ℕ)
+rows =
+    (1 ∷ 2 ∷ 0 ∷ 0 ∷ 0 ∷ 0 ∷ 5 ∷ 2 ∷ 0 ∷ 1 ∷ []) ∷
+    (0 ∷ 1 ∷ 0 ∷ 0 ∷ 0 ∷ 0 ∷ 0 ∷ 0 ∷ 1 ∷ 1 ∷ []) ∷
+    (0 ∷ 2 ∷ 0 ∷ 0 ∷ 0 ∷ 0 ∷ 0 ∷ 0 ∷ 0 ∷ 0 ∷ []) ∷
+    (0 ∷ 0 ∷ 2147483653 ∷ 0 ∷ 0 ∷ 0 ∷ 0 ∷ 0 ∷ 1 ∷ 2 ∷ []) ∷
+    (0 ∷ 1 ∷ 0 ∷ 0 ∷ 0 ∷ 0 ∷ 0 ∷ 0 ∷ 0 ∷ 0 ∷ []) ∷
+    (1 ∷ 1 ∷ 0 ∷ 0 ∷ 1 ∷ 1 ∷ 8 ∷ 4 ∷ 0 ∷ 2 ∷ []) ∷
+    (0 ∷ 0 ∷ 2147483651 ∷ 0 ∷ 0 ∷ 0 ∷ 0 ∷ 0 ∷ 0 ∷ 0 ∷ []) ∷
+    (0 ∷ 0 ∷ 2147483653 ∷ 0 ∷ 0 ∷ 0 ∷ 0 ∷ 0 ∷ 0 ∷ 0 ∷ []) ∷
+    (1 ∷ 0 ∷ 2147483653 ∷ 0 ∷ 1 ∷ 3 ∷ 6 ∷ 7 ∷ 0 ∷ 0 ∷ []) ∷ []
+
+-- the dummy, insert 5's and insert 3's records, both committed; and, by hand, record 3, taken and unfilled, its state ⊥
+abbrev pub infos : List (List ℕ)
+infos =
+    (0 ∷ 3 ∷ replicate 20 0) ∷
+    (2 ∷ 2 ∷ 0 ∷ 1 ∷ 5 ∷ 0 ∷ 0 ∷ 0 ∷ 0 ∷ 0 ∷ 1 ∷ 0 ∷ 0 ∷ 1 ∷ replicate 8 0) ∷
+    (2 ∷ 2 ∷ 5 ∷ 3 ∷ 8 ∷ 0 ∷ 5 ∷ 0 ∷ 0 ∷ 0 ∷ 3 ∷ 0 ∷ 0 ∷ 1 ∷ replicate 8 0) ∷
+    replicate 22 0 ∷ []
+
 unfoldable pub base : World
-base = withUsed 9 4 (two 9 4)
+unfolding flatten
+base = record {
+  board = record { totals = record { n = 9; m = 4; p = 1; nodes = 9; records = 4; counter = 0 }; workers = replicate 8 idle };
+  nodes = flatten rows;
+  records = flatten infos;
+  pending = replicate 9 0;
+  found = replicate 9 (pos 0);
+}
 
 -- ---- worker 0 at a place
 
@@ -83,6 +111,11 @@ GoesOn s = turnOf s 0 .outcome ≡ Going
 crooked : {s : World} → turnOf s 0 .outcome ≡ Refused refusal.Crooked → Crooks s
 crooked {s} e = record { leaves = turn-keeps s 0 refusal.Crooked e }
 
+-- the tables made by hand are those that an evening leaves
+pub played : sameList (flatten rows) (take 90 (two 9 4 .nodes)) && sameList (flatten infos) (take 88 (two 9 4 .records)) ≡ true
+unfolding stepsOpened fresh insert stepped took done sameList two flatten
+played = refl
+
 -- 'come to the end of a prev walk without a node early enough'
 pub record Walks : Type 0 where
   pub search : Crooks (later 7 (inserting place.Search39 (hand (At (node 5)) 8 0)))
@@ -95,7 +128,7 @@ pub record Walks : Type 0 where
   pub scanLeft : Crooks (later 6 (withPending 0 0 8 (scanning 0 9 place.Left144 0 1 0)))
 
 pub walks : Walks
-unfolding stepsOpened fresh insert onward took done two base
+unfolding stepsOpened base
 walks = record { search = crooked refl; searchFurther = crooked refl; searchStops = refl; sibling = crooked refl; scanRight = crooked refl; scanRightAlone = crooked refl; scanLeftAlone = crooked refl; scanLeft = crooked refl }
 
 -- 'push on a full list': N = 9 pending, or 9 found
@@ -111,7 +144,7 @@ pub record Pushes : Type 0 where
   pub foundFullLeft : Crooks (withPending 0 0 8 (scanning 0 9 place.Left144 0 1 9))
 
 pub pushes : Pushes
-unfolding stepsOpened fresh insert onward took done two base
+unfolding stepsOpened base
 pushes = record { pendingFull = crooked refl; pendingRoom = refl; pendingAlone = refl; foundFull = crooked refl; foundRoom = refl; foundOutside = refl; foundFullLeft = crooked refl }
 
 -- 'use an absent or wrong-kind node as parent, grandparent': to use a node is to read or change its words, or list it in a record
@@ -151,7 +184,7 @@ pub record Parents : Type 0 where
   pub scanLeft : Crooks (withPending 0 0 7 (scanning 0 9 place.Left144 0 1 0))
 
 pub parents : Parents
-unfolding stepsOpened fresh insert onward took done two base
+unfolding stepsOpened base
 parents = record {
   search = crooked refl;
   leafWord = crooked refl;
@@ -206,7 +239,7 @@ pub record Grandparents : Type 0 where
   pub fillInsertLeafP : Crooks (inserting place.Frozen97 (tests 2 Absent 7 0 0 3))
 
 pub grandparents : Grandparents
-unfolding stepsOpened fresh insert delete turnsAfter answer show onward took done two base shallow
+unfolding stepsOpened fresh delete turnsAfter answer show base shallow
 grandparents = record {
   reaches182 = crooked refl;
   reachesPlayed = refl;
@@ -235,7 +268,7 @@ pub record Copies : Type 0 where
   pub fillInternal : Crooks (deleting place.Frozen97 (tests 4 (At (node 5)) 8 6 8 3))
 
 pub copies : Copies
-unfolding stepsOpened fresh insert onward took done two base
+unfolding stepsOpened base
 copies = record { left = crooked refl; right = crooked refl; leftWord = refl; leftChild = crooked refl; rightWord = refl; rightChild = crooked refl; fillLeaf = crooked refl; fillInternal = crooked refl }
 
 -- 'fill the dummy or a filled record, or help the dummy or an unfilled record'
@@ -264,7 +297,7 @@ pub record Records : Type 0 where
   pub decides : show (answer 0 (inserting (place.Link Leaf64 State53) (withUp below (update flag (recordNo 3))))) ≡ shown (Refused refusal.Crooked) 1 9 4 0
 
 pub records : Records
-unfolding stepsOpened fresh insert turnsAfter answer show onward took done two base outcomes
+unfolding stepsOpened turnsAfter answer show base outcomes
 records = record {
   fillDummy = crooked refl;
   fillFilled = crooked refl;

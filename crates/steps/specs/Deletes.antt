@@ -2,6 +2,7 @@
 use Prim.Native.Nat.{ℕ, _*_}
 use mathlib.Core.Path.{_≡_, refl}
 use mathlib.Core.List.{List, [], _∷_, _++_}
+use mathlib.Core.Bool.{true, _&&_}
 use lib.ListN.{take, drop}
 use lib.IntN.{ℤ, pos}
 use Rattle.shapes.specs.declared.Outcome.the-variants.{Said}
@@ -15,8 +16,9 @@ use Rattle.shapes.specs.declared.Place.{Place}
 use Rattle.shapes.specs.declared.Place.the-variants as place
 use Rattle.tables.specs.Nodes.{nodeWidth}
 use Rattle.tables.specs.World.{World}
+use Rattle.sound.specs.Sound.{soundOf}
 use Rattle.steps.specs.Opened.{stepsOpened}
-use Rattle.steps.specs.Play.{fresh, insert, delete, turnsAfter, answer, toTheEnd, shown, show, onward, took, done, placeIn, placesOf}
+use Rattle.steps.specs.Play.{fresh, insert, delete, toTheEnd, shown, show, stepped, took, done, ends, placeIn, placesOf}
 
 -- 5 and 3: below the Root (0) node 5 (∞1), below it node 8 (key 5) with the leaves 6 (key 3) and 7 (key 5)
 unfoldable pub two : ℕ → ℕ → World
@@ -52,20 +54,22 @@ pub record Deletes : Type 0 where
       (place.Help Counter111 Own ∷ place.Help Try113 Own ∷ place.Help State114 Own ∷ []) ++ freezes ++ freezes ++ freezes ++
       (place.Help Child123 Own ∷ place.Help Commit124 Own ∷ place.Help State127 Own ∷ [])
   -- at depth D, D + 39 turns; one node and one record more
-  pub depth3 : show (answer 0 (delete 0 (pos 3) three)) ≡ shown (Said Yes) 42 13 5 0
-  pub depth4 : show (answer 0 (delete 0 (pos 5) four)) ≡ shown (Said Yes) 43 16 6 0
+  pub depth3 : ends 0 0 (delete 0 (pos 3) three) ≡ shown (Said Yes) 42 13 5 0
+  pub depth4 : ends 0 0 (delete 0 (pos 5) four) ≡ shown (Said Yes) 43 16 6 0
   -- line 185: node 12 is internal as node 11 is, with its key 7, phase 0 and prev 8, which is p; 'until read, that child of the copy stands as 0'
   pub copyTaken : row 12 (took 16 0 (delete 0 (pos 3) three)) ≡ 1 ∷ 0 ∷ 2147483655 ∷ 0 ∷ 1 ∷ 8 ∷ 0 ∷ 0 ∷ 0 ∷ 0 ∷ []
   pub copyLeft : row 12 (took 17 0 (delete 0 (pos 3) three)) ≡ 1 ∷ 0 ∷ 2147483655 ∷ 0 ∷ 1 ∷ 8 ∷ 10 ∷ 0 ∷ 0 ∷ 0 ∷ []
   pub copyRight : row 12 (took 18 0 (delete 0 (pos 3) three)) ≡ 1 ∷ 0 ∷ 2147483655 ∷ 0 ∷ 1 ∷ 8 ∷ 10 ∷ 9 ∷ 0 ∷ 0 ∷ []
   -- 'a leaf sibling's copy needs no turn': its word is read (line 189), so D + 32; P5 has depth 2
-  pub leafSibling : show (answer 0 (delete 0 (pos 3) (two 16 8))) ≡ shown (Said Yes) 35 10 4 0
+  pub leafSibling : ends 0 0 (delete 0 (pos 3) (two 16 8)) ≡ shown (Said Yes) 35 10 4 0
   pub leafPlaces : placesOf 6 0 (took 13 0 (delete 0 (pos 3) (two 16 8))) ≡ link Sibling183 ++ (place.Word189 ∷ place.Leaf190 ∷ place.Frozen97 ∷ [])
   -- 'no room, when the taking finds fewer nodes than needed or no record left, and only then, with nothing taken': line 185, in turn D + 13
-  pub noNode : show (answer 0 (delete 0 (pos 3) (two 9 8))) ≡ shown (Said NoRoom) 16 9 3 0
-  pub noRecord : show (answer 0 (delete 0 (pos 3) (two 16 3))) ≡ shown (Said NoRoom) 16 9 3 0
-  pub justEnough : show (answer 0 (delete 0 (pos 3) (two 10 4))) ≡ shown (Said Yes) 35 10 4 0
+  pub noNode : ends 0 0 (delete 0 (pos 3) (two 9 8)) ≡ shown (Said NoRoom) 16 9 3 0
+  pub noRecord : ends 0 0 (delete 0 (pos 3) (two 16 3)) ≡ shown (Said NoRoom) 16 9 3 0
+  pub justEnough : ends 0 0 (delete 0 (pos 3) (two 10 4)) ≡ shown (Said Yes) 35 10 4 0
+  -- nobody asked on the way; at the ends the tables are sound
+  pub sound : soundOf (done 0 (delete 0 (pos 5) four)) && soundOf (done 0 (delete 0 (pos 3) (two 16 8))) ≡ true
 
 pub deletes : Deletes
-unfolding stepsOpened fresh insert delete turnsAfter answer show onward took done placeIn placesOf two three four row
-deletes = record { places = refl; depth3 = refl; depth4 = refl; copyTaken = refl; copyLeft = refl; copyRight = refl; leafSibling = refl; leafPlaces = refl; noNode = refl; noRecord = refl; justEnough = refl }
+unfolding stepsOpened fresh insert delete show stepped took done ends placeIn placesOf two three four row
+deletes = record { places = refl; depth3 = refl; depth4 = refl; copyTaken = refl; copyLeft = refl; copyRight = refl; leafSibling = refl; leafPlaces = refl; noNode = refl; noRecord = refl; justEnough = refl; sound = refl }

@@ -2,7 +2,7 @@
 use Prim.Native.Nat.{ℕ}
 use mathlib.Core.Path.{_≡_, refl}
 use mathlib.Core.List.{List, [], _∷_, _++_}
-use mathlib.Core.Bool.{true}
+use mathlib.Core.Bool.{true, _&&_}
 use lib.IntN.{ℤ, pos}
 use Rattle.shapes.specs.declared.Outcome.the-variants.{Said}
 use Rattle.shapes.specs.declared.Answer.the-variants.{Yes, No, Keys}
@@ -18,8 +18,9 @@ use Rattle.tables.specs.Names.{node, recordNo, root, flag, mark, update}
 use Rattle.tables.specs.Nodes.{childAt, updateAt}
 use Rattle.tables.specs.Records.{undecided, trying, committed, aborted, countAt, stateAt}
 use Rattle.tables.specs.World.{World, tablesOf}
+use Rattle.sound.specs.Sound.{soundOf}
 use Rattle.steps.specs.Opened.{stepsOpened}
-use Rattle.steps.specs.Play.{fresh, insert, delete, find, scans, turnsAfter, answer, toTheEnd, shown, show, onward, took, done, placeIn, placesOf, sameList, sameTables}
+use Rattle.steps.specs.Play.{fresh, insert, delete, find, scans, toTheEnd, shown, show, stepped, took, done, ends, placeIn, placesOf, sameList, sameTables}
 use Rattle.steps.specs.Deletes.{two, three}
 
 -- ---- the handshake fails: insert 5 has flagged the Root in phase 0, then Counter moves
@@ -82,43 +83,45 @@ staleParent = done 0 (delete 0 (pos 3) (took 5 1 (find 1 (pos 7) three)))
 pub record Helping : Type 0 where
   -- lines 111 and 112 by a scan that helps; it finds nothing, and the insert begins again in phase 1
   pub scanPlaces : placesOf toTheEnd 1 scanAborts ≡ (place.Counter130 ∷ place.Bump131 ∷ place.Word139 ∷ place.State140 ∷ []) ++ aborts Node ++ (place.Child141 ∷ [])
-  pub scanSays : show (answer 1 scanAborts) ≡ shown (Said (Keys 0)) 10 6 2 1
+  pub scanSays : ends 0 1 scanAborts ≡ shown (Said (Keys 0)) 10 6 2 1
   pub recordAborted : stateAt (done 1 scanAborts .records) (recordNo 1) ≡ aborted
   pub insertSees : placesOf 6 0 (done 1 scanAborts) ≡ aborts Own ++ (place.Counter74 ∷ [])
-  pub insertSays : show (turnsAfter 10 toTheEnd 0 (done 1 scanAborts)) ≡ shown (Said Yes) 33 9 3 1
+  pub insertSays : ends 10 0 (done 1 scanAborts) ≡ shown (Said Yes) 33 9 3 1
   -- the same by a find, which then makes a new attempt
   pub findSees : placesOf 10 2 findAborts ≡ (place.Counter74 ∷ place.Search39 ∷ place.Link Leaf64 Word52 ∷ place.Link Leaf64 State53 ∷ []) ++ aborts Again ++ (place.Counter74 ∷ [])
-  pub findSays : show (answer 2 findAborts) ≡ shown (Said No) 15 6 2 1
+  pub findSays : ends 0 2 findAborts ≡ shown (Said No) 15 6 2 1
   -- line 105: turn 10 fails, then a whole attempt at depth 2; what was taken stays taken, and the record stays filled and undecided
-  pub firstCas : show (turnsAfter 9 toTheEnd 0 lateFlag) ≡ shown (Said Yes) 33 12 4 0
+  pub firstCas : ends 9 0 lateFlag ≡ shown (Said Yes) 33 12 4 0
   pub firstCasNext : placesOf 2 0 lateFlag ≡ place.Freeze103 ∷ place.Counter74 ∷ []
   pub firstCasRoot : updateAt (took 1 0 lateFlag .nodes) root ≡ update flag (recordNo 2)
   pub firstCasRecord : countAt (done 0 lateFlag .records) (recordNo 1) ∷ stateAt (done 0 lateFlag .records) (recordNo 1) ∷ [] ≡ 2 ∷ undecided ∷ []
   -- lines 119, 125 and 126: p is another's; the delete aborts, helps insert 3, then finds 5 at depth 3
   pub secondCas : placesOf 9 0 lostParent ≡ place.Help Counter111 Own ∷ place.Help Try113 Own ∷ place.Help State114 Own ∷ place.Help Freeze117 Own ∷ place.Help Frozen119 Own ∷ place.Help State125 Own ∷ place.Help Abort126 Own ∷ place.Help State127 Own ∷ place.Counter74 ∷ []
   pub secondCasState : stateAt (took 7 0 lostParent .records) (recordNo 2) ≡ aborted
-  pub secondCasSays : show (turnsAfter 22 toTheEnd 0 lostParent) ≡ shown (Said Yes) 78 11 5 0
+  pub secondCasSays : ends 22 0 lostParent ≡ shown (Said Yes) 78 11 5 0
   -- line 91: a MARK with ABORT is not frozen; a find of 3 passes the marked p
   pub markedParent : updateAt (lostSibling .nodes) (node 8) ≡ update mark (recordNo 5)
   pub markedState : stateAt (lostSibling .records) (recordNo 5) ≡ aborted
-  pub markWithAbort : show (answer 2 (find 2 (pos 3) lostSibling)) ≡ shown (Said Yes) 12 16 6 0
+  pub markWithAbort : ends 0 2 (find 2 (pos 3) lostSibling) ≡ shown (Said Yes) 12 16 6 0
   -- lines 97 to 99: TRY is helped (8 turns), COMMIT is not; then a whole attempt at depth 2
   pub line98Try : placesOf 5 0 (marked 14) ≡ place.Leaf164 ∷ place.Frozen97 ∷ place.Frozen97 ∷ place.State98 ∷ place.Help Counter111 Again ∷ []
-  pub line98TrySays : show (turnsAfter 6 toTheEnd 0 (marked 14)) ≡ shown (Said Yes) 41 12 4 0
+  pub line98TrySays : ends 6 0 (marked 14) ≡ shown (Said Yes) 41 12 4 0
   pub line98Commit : placesOf 5 0 (marked 18) ≡ place.Leaf164 ∷ place.Frozen97 ∷ place.Frozen97 ∷ place.State98 ∷ place.Counter74 ∷ []
-  pub line98CommitSays : show (turnsAfter 6 toTheEnd 0 (marked 18)) ≡ shown (Said Yes) 33 12 4 0
+  pub line98CommitSays : ends 6 0 (marked 18) ≡ shown (Said Yes) 33 12 4 0
   -- 'in EXECUTE's line 98 the state is read a second time'
   pub line98Again : placesOf 2 0 between97and98 ≡ place.State98 ∷ place.Counter74 ∷ []
   -- line 85: the Root's left child is no longer the old one, and stays
   pub lateChildBefore : childAt (lateChild .nodes) root true ≡ node 6
   pub lateChildAfter : childAt (took 1 0 lateChild .nodes) root true ≡ node 6
-  pub lateChildSays : show (turnsAfter 15 toTheEnd 0 lateChild) ≡ shown (Said Yes) 18 7 3 0
+  pub lateChildSays : ends 15 0 lateChild ≡ shown (Said Yes) 18 7 3 0
   -- a MARK with COMMIT met by line 53: HELP takes its turns and changes nothing
   pub commitPlaces : placesOf 8 1 staleParent ≡ place.Link Leaf64 Word52 ∷ place.Link Leaf64 State53 ∷ place.Help Counter111 Again ∷ place.Help Try113 Again ∷ place.Help State114 Again ∷ place.Help State125 Again ∷ place.Help State127 Again ∷ place.Counter74 ∷ []
   pub commitTables : sameTables (tablesOf (took 7 1 staleParent)) (tablesOf staleParent) ≡ true
+  -- nobody asked on the way; at the ends the tables are sound
+  pub sound : soundOf (done 0 (done 1 scanAborts)) && (soundOf (done 2 findAborts) && (soundOf (done 0 lateFlag) && (soundOf (done 0 lostParent) && (soundOf (done 2 (find 2 (pos 3) lostSibling)) && (soundOf (done 0 (marked 14)) && (soundOf (done 0 between97and98) && (soundOf (done 0 lateChild) && soundOf (done 1 staleParent)))))))) ≡ true
 
 pub helping : Helping
-unfolding stepsOpened fresh insert delete find scans turnsAfter answer show onward took done placeIn placesOf sameList sameTables two three flagged5 scanAborts findAborts lateFlag lostParent lostSibling marked between97and98 lateChild staleParent
+unfolding stepsOpened fresh insert delete find scans show stepped took done ends placeIn placesOf sameList sameTables two three flagged5 scanAborts findAborts lateFlag lostParent lostSibling marked between97and98 lateChild staleParent
 helping = record {
   scanPlaces = refl;
   scanSays = refl;
@@ -147,4 +150,5 @@ helping = record {
   lateChildSays = refl;
   commitPlaces = refl;
   commitTables = refl;
+  sound = refl;
 }

@@ -20,3 +20,4 @@ pub mod Kept
 pub mod Refusals
 pub mod Crooked
 pub mod Spoiled
+pub mod Large

@@ -7,7 +7,7 @@ use lib.ListN.{replicate, take, drop}
 use lib.IntN.{ℤ, pos}
 use Rattle.laws.specs.Choice.{pick}
 use Rattle.shapes.specs.declared.Outcome.{Outcome}
-use Rattle.shapes.specs.declared.Outcome.the-variants.{Going, Said, Refused}
+use Rattle.shapes.specs.declared.Outcome.the-variants.{Going}
 use Rattle.shapes.specs.declared.Place.{Place}
 use Rattle.shapes.specs.declared.Operation.the-variants.{Insert, Delete, Find, Scan}
 use Rattle.shapes.specs.declared.Condition.{Condition}
@@ -17,7 +17,7 @@ use Rattle.tables.specs.Nodes.{nodeWidth}
 use Rattle.tables.specs.Records.{recordWidth}
 use Rattle.tables.specs.World.{World, Tables, totalsOf, idle, workerAt, spot}
 use Rattle.tables.specs.Fresh.{freshOf}
-use Rattle.steps.specs.Turn.{Ran, stepOf, insertOf, deleteOf, findOf, scanOf, runFrom}
+use Rattle.steps.specs.Turn.{Ran, stepOf, goesOn, insertOf, deleteOf, findOf, scanOf, runFrom}
 
 -- tables for N, M and three workers, lent full of nines, a few places longer than they need be
 abbrev pub lent : ℕ → ℕ → World
@@ -75,24 +75,26 @@ show r = shown (r .outcome) (r .turns) (totalsOf (r .world) .nodes) (totalsOf (r
 unfoldable pub keysOf : ℕ → ℕ → Ran → List ℤ
 keysOf k w r = take k (drop (spot (totalsOf (r .world)) w 0) (r .world .found))
 
--- ---- how an evening comes to where it is told from: turns of which nobody asks whether the tables are sound
+-- ---- evenings of many operations: the same runs, without asking at each turn whether the tables are sound
 
--- on with the rest, unless worker w has answered or is refused
-unfoldable pub onward : Outcome → World → World → World
-onward Going s rest = rest
-onward (Said a) s rest = s
-onward (Refused r) s rest = s
+-- up to k turns of worker w, which had taken n before
+unfoldable pub stepped : ℕ → ℕ → ℕ → World → Ran
+stepped zero n w s = record { world = s; outcome = Going; turns = n }
+stepped (suc k) n w s =
+    let d = stepOf s w in
+    let rest = stepped k (suc n) w (d .world) in
+    goesOn (d .outcome) (d .world) n rest
 
 -- worker w takes k turns, or all that it has
 unfoldable pub took : ℕ → ℕ → World → World
-took zero w s = s
-took (suc k) w s =
-    let d = stepOf s w in
-    let rest = took k w (d .world) in
-    onward (d .outcome) (d .world) rest
+took k w s = stepped k 0 w s .world
 
 unfoldable pub done : ℕ → World → World
 done w s = took toTheEnd w s
+
+-- what worker w's operation comes to, where it had taken so many turns before
+unfoldable pub ends : ℕ → ℕ → World → Shown
+ends before w s = show (stepped toTheEnd before w s)
 
 unfoldable pub placeIn : Condition → List Place
 placeIn Idle = []

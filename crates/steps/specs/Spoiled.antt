@@ -24,7 +24,7 @@ use Rattle.tables.specs.World.{World, blank, idle}
 use Rattle.sound.specs.Sound.{soundOf}
 use Rattle.steps.specs.Hand.{withUp, withPup, withGpup, withSup, withLup, withLeaf, withSibling, withTaken, withI, holding}
 use Rattle.steps.specs.Opened.{stepsOpened}
-use Rattle.steps.specs.Play.{fresh, insert, delete, onward, took, done}
+use Rattle.steps.specs.Play.{fresh, insert, delete, stepped, took, done}
 use Rattle.steps.specs.Hands.{withNode, withRecord, withTotals, withCounter, withUsed, withWorker, withPending, busy, doing, hand, withSeq, exactly, kindWord, classWord, keyWord, phaseWord, hasPrevWord, prevWord, leftWord, rightWord, markWord, infoWord, countWord, stateWord, parWord, oldWord, newWord, seqWord, entryNode, entryType, entryInfo, entryMark}
 
 -- 5 is inserted and is being deleted (N = 8, M = 4): 7 nodes are used, of which the Root 0 and 5 are internal; record 1 lists 2 nodes,
@@ -129,7 +129,7 @@ pub record SpoiledNodes : Type 0 where
   pub noType : soundOf (withNode 3 markWord 2 sound) ≡ false
 
 pub spoiledNodes : SpoiledNodes
-unfolding stepsOpened fresh insert delete onward took done sound
+unfolding stepsOpened fresh insert delete stepped took done sound
 spoiledNodes = record {
   unspoiled = refl;
   rootLeaf = refl;
@@ -183,7 +183,7 @@ pub record SpoiledRecords : Type 0 where
   pub noMark : soundOf (withRecord 1 (entryMark 2) 2 sound) ≡ false
 
 pub spoiledRecords : SpoiledRecords
-unfolding stepsOpened fresh insert delete onward took done sound soundness
+unfolding stepsOpened fresh insert delete stepped took done sound soundness
 spoiledRecords = record {
   dummyWords = refl;
   nodesOfTwo = refl;
@@ -272,7 +272,7 @@ pub record SpoiledWorkers : Type 0 where
   pub scanOther : at (Scan five five) (inserts ++ deletes ++ updates ++ attempts) ≡ replicate 17 false
 
 pub spoiledWorkers : SpoiledWorkers
-unfolding stepsOpened fresh insert delete onward took done sound soundness
+unfolding stepsOpened fresh insert delete stepped took done sound soundness
 spoiledWorkers = record {
   nodes = refl;
   records = refl;
@@ -326,5 +326,5 @@ pub record Anything : Type 0 where
   pub longer : soundOf (fresh 8 2) ≡ true
 
 pub anything : Anything
-unfolding stepsOpened fresh insert delete onward took done sound
+unfolding stepsOpened fresh insert delete stepped took done sound
 anything = record { unusedNode = refl; usedNode = refl; unusedRecord = refl; usedRecord = refl; behindCounts = refl; behindList = refl; behindP = refl; withinP = refl; longer = refl }
