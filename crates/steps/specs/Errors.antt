@@ -3,7 +3,7 @@ use Prim.Native.Nat.{ℕ, zero, suc}
 use mathlib.Core.Path.{_≡_, refl, ap, sym, _∙_}
 use mathlib.Core.Bool.{Bool, true, false, true≢false, false≢true}
 use mathlib.Core.List.{List, [], _∷_}
-use lib.IntN.{ℤ, pos}
+use lib.IntN.{pos}
 use lib.Dec.{eqb}
 use Rattle.shapes.specs.declared.Key.{Key}
 use Rattle.shapes.specs.declared.Place.the-variants as place
@@ -22,6 +22,7 @@ use Rattle.steps.specs.Turn.{Ran, turnOf, findOf, runOf}
 use Rattle.steps.specs.Opened.{stepsOpened}
 use Rattle.steps.specs.Play.{fresh, insert, delete, find, scans, turnsAfter, answer, toTheEnd, shown, show, stepped, took, done}
 use Rattle.steps.specs.Kept.{isRefused}
+use Rattle.steps.specs.Deletes.{two, three}
 use Rattle.steps.specs.Hands.{withNode, withWorker, busy, markWord}
 
 -- a scan of phase 0 has taken two turns; insert 5 passes whole, in phase 1; the scan goes on
@@ -39,16 +40,13 @@ markedRoot = turnsAfter 9 toTheEnd 0 (withNode 0 markWord mark (took 9 0 (insert
 unfoldable pub markedLeaf : Ran
 markedLeaf = turnsAfter 13 toTheEnd 0 (withNode 1 markWord mark (took 13 0 (insert 0 (pos 5) (fresh 16 4))))
 
--- 5, 3 and 7 are inserted; find 7 comes down to its leaf; delete 3 marks that leaf's parent and commits; 7 is deleted; the find goes on
+-- after 5, 3 and 7 find 7 comes down to its leaf; delete 3 marks that leaf's parent and commits; 7 is deleted; the find goes on
 unfoldable pub staleFind : Ran
 staleFind =
-    let a = done 0 (insert 0 (pos 5) (fresh 16 8)) in
-    let b = done 0 (insert 0 (pos 3) a) in
-    let c = done 0 (insert 0 (pos 7) b) in
-    let d = took 5 1 (find 1 (pos 7) c) in
-    let e = done 0 (delete 0 (pos 3) d) in
-    let f = done 0 (delete 0 (pos 7) e) in
-    turnsAfter 5 toTheEnd 1 f
+    let a = took 5 1 (find 1 (pos 7) three) in
+    let b = done 0 (delete 0 (pos 3) a) in
+    let c = done 0 (delete 0 (pos 7) b) in
+    turnsAfter 5 toTheEnd 1 c
 
 -- P8 is the first of 01's errors: a record tried without comparing Counter
 pub record Errors : Type 0 where
@@ -58,11 +56,11 @@ pub record Errors : Type 0 where
   pub onlyTheRecord103 : show markedRoot ≡ shown (Said Yes) 28 9 3 0
   -- and here: turns 14 to 18 fail, see that, abort and say so; then a whole attempt
   pub onlyTheRecord117 : show markedLeaf ≡ shown (Said Yes) 36 9 3 0
-  -- 'treating MARK with COMMIT as unfrozen' would say yes, in 13 turns: here two turns of line 53, five of HELP, and a new attempt of 11
+  -- 'treating MARK with COMMIT as unfrozen' would say yes, in 13 turns; after the first 5, two come to line 53, five are HELP's, and a new attempt takes 11
   pub markWithCommit : show staleFind ≡ shown (Said No) 23 14 6 0
 
 pub errors : Errors
-unfolding stepsOpened fresh insert delete find scans turnsAfter answer show stepped took done oldScan markedRoot markedLeaf staleFind
+unfolding stepsOpened fresh insert delete find scans turnsAfter answer show stepped took done two three oldScan markedRoot markedLeaf staleFind
 errors = record { newestChild = refl; onlyTheRecord103 = refl; onlyTheRecord117 = refl; markWithCommit = refl }
 
 -- ---- the five programs that must be rejected

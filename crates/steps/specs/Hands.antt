@@ -1,11 +1,7 @@
 -- Tables made by hand: one word, worker or count of a world set to something else.
 use Prim.Native.Nat.{ℕ, _+_, _*_}
-use mathlib.Core.List.{List}
-use lib.ListN.{replicate, set}
-use lib.IntN.{ℤ, pos}
-use Rattle.shapes.specs.declared.RecordNo.{RecordNo}
-use Rattle.shapes.specs.declared.NodeNo.{NodeNo}
-use Rattle.shapes.specs.declared.Phase.{Phase}
+use lib.ListN.{replicate, take, set}
+use lib.IntN.{pos}
 use Rattle.shapes.specs.declared.Totals.{Totals}
 use Rattle.shapes.specs.declared.Locals.{Locals}
 use Rattle.shapes.specs.declared.Worker.{Worker}
@@ -142,3 +138,7 @@ exactly n m p = freshWorld n m p (record {
   pending = replicate (p * n) 9;
   found = replicate (p * n) (pos 9);
 })
+
+-- the lent tables cut to these lengths
+abbrev pub cut : ℕ → ℕ → ℕ → ℕ → World → World
+cut a b c d s = record { board = s .board; nodes = take a (s .nodes); records = take b (s .records); pending = take c (s .pending); found = take d (s .found) }

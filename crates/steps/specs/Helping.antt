@@ -3,20 +3,19 @@ use Prim.Native.Nat.{ℕ}
 use mathlib.Core.Path.{_≡_, refl}
 use mathlib.Core.List.{List, [], _∷_, _++_}
 use mathlib.Core.Bool.{true, _&&_}
-use lib.IntN.{ℤ, pos}
+use lib.IntN.{pos}
 use Rattle.shapes.specs.declared.Outcome.the-variants.{Said}
 use Rattle.shapes.specs.declared.Answer.the-variants.{Yes, No, Keys}
 use Rattle.shapes.specs.declared.Link.the-variants.{Leaf64}
 use Rattle.shapes.specs.declared.LinkStep.the-variants.{Word52, State53}
-use Rattle.shapes.specs.declared.HelpStep.{HelpStep}
-use Rattle.shapes.specs.declared.HelpStep.the-variants.{Counter111, Abort112, Try113, State114, Freeze117, Frozen119, Child123, Commit124, State125, Abort126, State127}
+use Rattle.shapes.specs.declared.HelpStep.the-variants.{Counter111, Abort112, Try113, State114, Freeze117, Frozen119, State125, Abort126, State127}
 use Rattle.shapes.specs.declared.Back.{Back}
 use Rattle.shapes.specs.declared.Back.the-variants.{Own, Again, Node}
 use Rattle.shapes.specs.declared.Place.{Place}
 use Rattle.shapes.specs.declared.Place.the-variants as place
 use Rattle.tables.specs.Names.{node, recordNo, root, flag, mark, update}
 use Rattle.tables.specs.Nodes.{childAt, updateAt}
-use Rattle.tables.specs.Records.{undecided, trying, committed, aborted, countAt, stateAt}
+use Rattle.tables.specs.Records.{undecided, aborted, countAt, stateAt}
 use Rattle.tables.specs.World.{World, tablesOf}
 use Rattle.sound.specs.Sound.{soundOf}
 use Rattle.steps.specs.Opened.{stepsOpened}

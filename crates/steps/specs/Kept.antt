@@ -1,9 +1,9 @@
--- A refusal leaves all as before: a turn or a start that comes to a refusal leaves the world it was given.
+-- A refusal leaves all as before: a turn, a start or fresh tables that come to a refusal leave the world as it was given.
 use Prim.Native.Nat.{ℕ}
-use mathlib.Core.Path.{_≡_, refl, ap, sym, _∙_}
-use mathlib.Core.Bool.{Bool, true, false, true≢false, false≢true}
+use mathlib.Core.Path.{_≡_, ap}
+use mathlib.Core.Bool.{Bool, true, false, false≢true, _&&_}
 use lib.Dec.{ltb}
-use Rattle.laws.specs.Choice.{pick, fork}
+use Rattle.laws.specs.Choice.{fork}
 use Rattle.shapes.specs.declared.Worker.{Worker}
 use Rattle.shapes.specs.declared.Operation.{Operation}
 use Rattle.shapes.specs.declared.Condition.{Condition}
@@ -17,7 +17,7 @@ use Rattle.shapes.specs.declared.Refusal.the-variants as refusal
 use Rattle.shapes.specs.declared.Outcome.{Outcome}
 use Rattle.shapes.specs.declared.Outcome.the-variants.{Going, Said, Refused}
 use Rattle.tables.specs.World.{World, totalsOf, tablesOf, workerAt}
-use Rattle.tables.specs.Fresh.{Left, refused}
+use Rattle.tables.specs.Fresh.{Left, refused, sizesOk, lentOk, freshOf}
 use Rattle.sound.specs.Sound.{soundOf}
 use Rattle.steps.specs.Decide.{decide}
 use Rattle.steps.specs.Turn.{outcomeOf, settle, listsOf, stepOn, stepOf, turnOf, begin, startOf}
@@ -27,7 +27,7 @@ isRefused Going = false
 isRefused (Said a) = false
 isRefused (Refused r) = true
 
--- whoever comes to a refusal leaves s
+-- what comes to a refusal leaves s
 abbrev pub Keeps : World → Left → Type 0
 Keeps s d = (r : Refusal) → d .outcome ≡ Refused r → d ≡ refused s r
 
@@ -67,3 +67,10 @@ start-keeps s w o =
     fork (Keeps s) (soundOf s)
     (λ _. fork (Keeps s) (ltb w (totalsOf s .p)) (λ _. begin-keeps s w (workerAt s w) o (workerAt s w .condition)) (λ _. refused-keeps s refusal.Worker))
     (λ _. refused-keeps s refusal.Table)
+
+pub fresh-keeps : (n m p : ℕ) (s : World) → Keeps s (freshOf n m p s)
+unfolding freshOf isRefused
+fresh-keeps n m p s =
+    fork (Keeps s) (sizesOk n m p && lentOk n m p s)
+    (λ _ r e. absurd (false≢true (ap isRefused e)))
+    (λ _. refused-keeps s refusal.Size)

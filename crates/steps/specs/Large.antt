@@ -2,7 +2,7 @@
 use Prim.Native.Nat.{ℕ}
 use mathlib.Core.Path.{_≡_, refl}
 use mathlib.Core.Bool.{Bool, true}
-use mathlib.Core.List.{List, [], _∷_, map}
+use mathlib.Core.List.{List, [], _∷_}
 use lib.ListN.{take}
 use lib.IntN.{ℤ, pos}
 use Rattle.shapes.specs.declared.Place.the-variants as place
@@ -11,7 +11,7 @@ use Rattle.shapes.specs.declared.Operation.the-variants.{Insert, Delete, Find, 
 use Rattle.shapes.specs.declared.Outcome.the-variants.{Going, Said}
 use Rattle.shapes.specs.declared.Answer.the-variants.{Yes}
 use Rattle.tables.specs.Names.{keyOf}
-use Rattle.tables.specs.World.{World, workerAt}
+use Rattle.tables.specs.World.{workerAt}
 use Rattle.sound.specs.Sound.{soundOf}
 use Rattle.steps.specs.Turn.{Ran, started}
 use Rattle.steps.specs.Opened.{stepsOpened}

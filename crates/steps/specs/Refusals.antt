@@ -1,7 +1,6 @@
 -- 01, 'Refusal numbers': 1, then 3, then 4 or 5, each leaving all as before. A call that could be refused twice is refused for the first.
-use Prim.Native.Nat.{ℕ}
 use mathlib.Core.Path.{_≡_, refl}
-use lib.IntN.{ℤ, pos}
+use lib.IntN.{pos}
 use Rattle.shapes.specs.Numbers.{refusalNumber}
 use Rattle.shapes.specs.declared.Key.{Key}
 use Rattle.shapes.specs.declared.Place.the-variants as place

@@ -1,10 +1,10 @@
 -- 01, 'Sound means': each clause broken alone on tables that are otherwise sound; and what may hold anything.
-use Prim.Native.Nat.{ℕ, _+_, _-_, _*_}
+use Prim.Native.Nat.{ℕ}
 use mathlib.Core.Path.{_≡_, refl}
 use mathlib.Core.Bool.{Bool, true, false}
 use mathlib.Core.List.{List, [], _∷_, _++_, map}
-use lib.ListN.{replicate, take, set}
-use lib.IntN.{ℤ, pos}
+use lib.ListN.{replicate}
+use lib.IntN.{pos}
 use Rattle.shapes.specs.declared.Key.{Key}
 use Rattle.shapes.specs.declared.Locals.{Locals}
 use Rattle.shapes.specs.declared.MaybeNode.the-variants.{Absent, At}
@@ -16,16 +16,16 @@ use Rattle.shapes.specs.declared.Place.{Place}
 use Rattle.shapes.specs.declared.Place.the-variants as place
 use Rattle.shapes.specs.declared.Operation.{Operation}
 use Rattle.shapes.specs.declared.Operation.the-variants.{Insert, Delete, Find, Scan}
-use Rattle.tables.specs.Names.{node, recordNo, phase, update, keyOf}
+use Rattle.tables.specs.Names.{node, recordNo, update, keyOf}
 use Rattle.tables.specs.Rows.{putRow}
 use Rattle.tables.specs.Nodes.{nodeWidth}
 use Rattle.tables.specs.Records.{recordWidth}
 use Rattle.tables.specs.World.{World, blank, idle}
 use Rattle.sound.specs.Sound.{soundOf}
-use Rattle.steps.specs.Hand.{withUp, withPup, withGpup, withSup, withLup, withLeaf, withSibling, withTaken, withI, holding}
+use Rattle.steps.specs.Hand.{withUp, withPup, withGpup, withSup, withLup, withSibling, withTaken, withI, holding}
 use Rattle.steps.specs.Opened.{stepsOpened}
 use Rattle.steps.specs.Play.{fresh, insert, delete, stepped, took, done}
-use Rattle.steps.specs.Hands.{withNode, withRecord, withTotals, withCounter, withUsed, withWorker, withPending, busy, doing, hand, withSeq, exactly, kindWord, classWord, keyWord, phaseWord, hasPrevWord, prevWord, leftWord, rightWord, markWord, infoWord, countWord, stateWord, parWord, oldWord, newWord, seqWord, entryNode, entryType, entryInfo, entryMark}
+use Rattle.steps.specs.Hands.{withNode, withRecord, withTotals, withCounter, withUsed, withWorker, withPending, busy, hand, withSeq, exactly, cut, kindWord, classWord, keyWord, phaseWord, hasPrevWord, prevWord, leftWord, rightWord, markWord, infoWord, countWord, stateWord, parWord, oldWord, newWord, seqWord, entryNode, entryType, entryInfo, entryMark}
 
 -- 5 is inserted and is being deleted (N = 8, M = 4): 7 nodes are used, of which the Root 0 and 5 are internal; record 1 lists 2 nodes,
 -- record 2 lists 4; worker 0 is in HELP, at the second of the four
@@ -36,10 +36,6 @@ unfoldable pub soundness : List World → List Bool
 soundness l = map soundOf l
 
 -- ---- sizes
-
--- the lent tables cut to these lengths
-abbrev pub cut : ℕ → ℕ → ℕ → ℕ → World → World
-cut a b c d s = record { board = s .board; nodes = take a (s .nodes); records = take b (s .records); pending = take c (s .pending); found = take d (s .found) }
 
 pub record SpoiledSizes : Type 0 where
   -- N 8 to 1,024, M 2 to 512, P 1 to 8, in tables that are long enough
@@ -220,21 +216,21 @@ listing o r i = withWorker 1 (busy o (withI (holding (recordNo r)) i) 0 0) sound
 abbrev pub placed : Operation → World
 placed o = withWorker 1 (busy o (withI blank 1) 1 0) sound
 
--- an unused word, and places that belong to one kind alone
-abbrev pub attempts : List Place
-attempts = place.Counter74 ∷ place.Search39 ∷ place.Link Leaf64 Word52 ∷ place.Word66 ∷ place.Grand66 ∷ place.Help Counter111 Again ∷ []
+-- places by the kinds of operation that have them: an insert, a delete and a find; an insert; a delete; an insert and a delete; a scan
+abbrev pub attemptPlaces : List Place
+attemptPlaces = place.Counter74 ∷ place.Search39 ∷ place.Link Leaf64 Word52 ∷ place.Word66 ∷ place.Grand66 ∷ place.Help Counter111 Again ∷ []
 
-abbrev pub inserts : List Place
-inserts = place.Leaf164 ∷ []
+abbrev pub insertPlaces : List Place
+insertPlaces = place.Leaf164 ∷ []
 
-abbrev pub deletes : List Place
-deletes = place.Sibling182 ∷ place.Link Sibling183 Word52 ∷ place.CopyLeft ∷ place.CopyRight ∷ place.Word189 ∷ place.Leaf190 ∷ []
+abbrev pub deletePlaces : List Place
+deletePlaces = place.Sibling182 ∷ place.Link Sibling183 Word52 ∷ place.CopyLeft ∷ place.CopyRight ∷ place.Word189 ∷ place.Leaf190 ∷ []
 
-abbrev pub updates : List Place
-updates = place.Frozen97 ∷ place.State98 ∷ place.Freeze103 ∷ place.Help Counter111 Own ∷ []
+abbrev pub updatePlaces : List Place
+updatePlaces = place.Frozen97 ∷ place.State98 ∷ place.Freeze103 ∷ place.Help Counter111 Own ∷ []
 
-abbrev pub scans : List Place
-scans = place.Counter130 ∷ place.Bump131 ∷ place.Word139 ∷ place.State140 ∷ place.Child141 ∷ place.Left144 ∷ place.Help Counter111 Node ∷ []
+abbrev pub scanPlaces : List Place
+scanPlaces = place.Counter130 ∷ place.Bump131 ∷ place.Word139 ∷ place.State140 ∷ place.Child141 ∷ place.Left144 ∷ place.Help Counter111 Node ∷ []
 
 abbrev pub at : (Place → Operation) → List Place → List Bool
 at o l = soundness (map (λ q. placed (o q)) l)
@@ -262,14 +258,14 @@ pub record SpoiledWorkers : Type 0 where
   -- the last of the pending nodes
   pub nonePending : soundOf (withWorker 1 (busy (Scan five five place.Left144) blank 0 0) sound) ≡ false
   -- 'inside that operation the place it has reached': a place of the operation's own kind
-  pub insertOwn : at (Insert five) (inserts ++ updates ++ attempts) ≡ replicate 11 true
-  pub insertOther : at (Insert five) (deletes ++ scans) ≡ replicate 13 false
-  pub deleteOwn : at (Delete five) (deletes ++ updates ++ attempts) ≡ replicate 16 true
-  pub deleteOther : at (Delete five) (inserts ++ scans) ≡ replicate 8 false
-  pub findOwn : at (Find five) attempts ≡ replicate 6 true
-  pub findOther : at (Find five) (inserts ++ deletes ++ updates ++ scans) ≡ replicate 18 false
-  pub scanOwn : at (Scan five five) scans ≡ replicate 7 true
-  pub scanOther : at (Scan five five) (inserts ++ deletes ++ updates ++ attempts) ≡ replicate 17 false
+  pub insertOwn : at (Insert five) (insertPlaces ++ updatePlaces ++ attemptPlaces) ≡ replicate 11 true
+  pub insertOther : at (Insert five) (deletePlaces ++ scanPlaces) ≡ replicate 13 false
+  pub deleteOwn : at (Delete five) (deletePlaces ++ updatePlaces ++ attemptPlaces) ≡ replicate 16 true
+  pub deleteOther : at (Delete five) (insertPlaces ++ scanPlaces) ≡ replicate 8 false
+  pub findOwn : at (Find five) attemptPlaces ≡ replicate 6 true
+  pub findOther : at (Find five) (insertPlaces ++ deletePlaces ++ updatePlaces ++ scanPlaces) ≡ replicate 18 false
+  pub scanOwn : at (Scan five five) scanPlaces ≡ replicate 7 true
+  pub scanOther : at (Scan five five) (insertPlaces ++ deletePlaces ++ updatePlaces ++ attemptPlaces) ≡ replicate 17 false
 
 pub spoiledWorkers : SpoiledWorkers
 unfolding stepsOpened fresh insert delete stepped took done sound soundness
