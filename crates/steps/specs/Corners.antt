@@ -5,13 +5,14 @@ use mathlib.Core.Bool.{true, _&&_}
 use mathlib.Core.List.{List, [], _∷_}
 use lib.ListN.{take}
 use lib.IntN.{ℤ, pos, negsuc}
+use Rattle.shapes.specs.declared.Condition.the-variants.{Idle}
 use Rattle.shapes.specs.declared.Outcome.the-variants.{Said}
 use Rattle.shapes.specs.declared.Answer.the-variants.{Yes, No, Keys, NoRoom, NoPhase}
-use Rattle.tables.specs.World.{World, tablesOf, idle, workerAt}
+use Rattle.tables.specs.World.{World, tablesOf, blank, idle, workerAt}
 use Rattle.sound.specs.Sound.{soundOf}
 use Rattle.steps.specs.Opened.{stepsOpened}
 use Rattle.steps.specs.Play.{fresh, insert, delete, find, scans, shown, show, stepped, took, done, ends, sameList, sameTables}
-use Rattle.steps.specs.Hands.{withCounter}
+use Rattle.steps.specs.Hands.{withCounter, withWorker}
 use Rattle.steps.specs.Deletes.{two, three}
 
 -- ---- the last phase, on a board made by hand
@@ -98,6 +99,8 @@ pub record Corners : Type 0 where
   -- 'it keeps its found keys until its next start, which sets that count to 0; places behind a count keep their contents'
   pub startForgets : countsOf (find 0 (pos 5) scanned) ≡ 0 ∷ 0 ∷ []
   pub startKeeps : foundOf 3 (find 0 (pos 5) scanned) ≡ pos 7 ∷ pos 5 ∷ pos 3 ∷ []
+  -- of pending 01 says no such thing: by hand, an idle worker with one pending, and a start
+  pub startKeepsPending : countsOf (find 0 (pos 5) (withWorker 0 (record { condition = Idle; hand = blank; pending = 1; found = 0 }) three)) ≡ 1 ∷ 0 ∷ []
   -- a scan of 4 to 6: right of 8 (4 ≤ 5 ≤ 6), left of 11 (6 < 7) alone, then the left of 8; the key 5, written over the 7
   pub narrow : ends 0 0 (scans 0 (pos 4) (pos 6) scanned) ≡ shown (Said (Keys 1)) 15 12 4 2
   pub narrowKeys : foundOf 3 (done 0 (scans 0 (pos 4) (pos 6) scanned)) ≡ pos 5 ∷ pos 5 ∷ pos 3 ∷ []
@@ -133,6 +136,7 @@ corners = record {
   pendingKept = refl;
   startForgets = refl;
   startKeeps = refl;
+  startKeepsPending = refl;
   narrow = refl;
   narrowKeys = refl;
   backward = refl;
