@@ -11,3 +11,14 @@ pub mod Turn
 pub mod Opened
 pub mod Play
 pub mod Evenings
+pub mod Kept
+pub mod Hands
+pub mod Deletes
+pub mod Errors
+pub mod Helping
+pub mod Corners
+pub mod FreshTables
+pub mod Refusals
+pub mod Crooked
+pub mod Spoiled
+pub mod Large
