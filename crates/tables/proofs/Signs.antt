@@ -1,7 +1,7 @@
 -- Keys as the machine's signed numbers: a key moved up by 2^31 is its number, a number moved down its key, and both fit.
-use Prim.Native.Nat.{ℕ, suc, _+_, _-_, _<_, _≤_}
+use Prim.Native.Nat.{ℕ, suc, _-_, _<_, _≤_}
 use native.Mathlib.Omega.{arith}
-use mathlib.Core.Path.{_≡_, refl, ap, _∙_}
+use mathlib.Core.Path.{_≡_, refl, ap}
 use mathlib.Core.Bool.{Bool, true, false, cond}
 use lib.IntN.{ℤ, pos, negsuc, _+ℤ_, _-ℤ_}
 use lib.Dec.{ltb}
@@ -9,8 +9,7 @@ use mir.Syntax.{w32, w64}
 use mir.Val.{SFits, toZ}
 use mir.ValLaws.{toZ-pos}
 use borrow.Author.Tests.{ltb-true, ltb-false, le-ltb}
-use Rattle.shapes.specs.declared.Key.{Key}
-use Rattle.tables.specs.Names.{keyOf, numberOf}
+use Rattle.tables.specs.Names.{keyOf}
 
 pub wide : (z : ℤ) → SFits w32 z → SFits w64 z
 wide (pos n) f = record { sfits = omega (arith, f .sfits) }

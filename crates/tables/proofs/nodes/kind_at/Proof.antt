@@ -9,7 +9,7 @@ word-requires c κs = search needs
 
 returns : tie.Need-returns
 unfolding kindAt
-returns c = (c .word .ensures)
+returns c = c .word .ensures
 
 pub kind-at-spec : {M : Type 1} → statement M
 kind-at-spec = tie.close (tie.spec word-requires returns)

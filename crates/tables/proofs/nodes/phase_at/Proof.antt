@@ -9,7 +9,7 @@ word-requires c κs = search needs
 
 returns : tie.Need-returns
 unfolding phaseAt
-returns c = (c .word .ensures)
+returns c = c .word .ensures
 
 pub phase-at-spec : {M : Type 1} → statement M
 phase-at-spec = tie.close (tie.spec word-requires returns)

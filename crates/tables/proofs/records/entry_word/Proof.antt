@@ -27,7 +27,7 @@ get-requires c κs = search needs
 
 returns : tie.Need-returns
 unfolding word
-returns c = (c .get .ensures)
+returns c = c .get .ensures
 
 pub entry-word-spec : {M : Type 1} → statement M
 entry-word-spec =

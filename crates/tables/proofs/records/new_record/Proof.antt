@@ -15,7 +15,7 @@ same-length c = search needs
 
 returns : tie.Need-returns
 unfolding newRecord recordRow entryRow
-returns c = (c .before .before .put-row .ensures)
+returns c = c .before .before .put-row .ensures
 
 pub new-record-spec : {M : Type 1} → statement M
 new-record-spec = tie.close (tie.spec slice-aggregate-put-row put-row-requires same-length returns)

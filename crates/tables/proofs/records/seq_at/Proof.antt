@@ -9,7 +9,7 @@ word-requires c κs = search needs
 
 returns : tie.Need-returns
 unfolding seqAt
-returns c = (c .word .ensures)
+returns c = c .word .ensures
 
 pub seq-at-spec : {M : Type 1} → statement M
 seq-at-spec = tie.close (tie.spec word-requires returns)

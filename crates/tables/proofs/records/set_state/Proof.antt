@@ -12,7 +12,7 @@ same-length c = search needs
 
 returns : tie.Need-returns
 unfolding setState
-returns c = (c .before .before .put-word .ensures)
+returns c = c .before .before .put-word .ensures
 
 pub set-state-spec : {M : Type 1} → statement M
 set-state-spec = tie.close (tie.spec put-word-requires same-length returns)

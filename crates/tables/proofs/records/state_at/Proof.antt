@@ -9,7 +9,7 @@ word-requires c κs = search needs
 
 returns : tie.Need-returns
 unfolding stateAt
-returns c = (c .word .ensures)
+returns c = c .word .ensures
 
 pub state-at-spec : {M : Type 1} → statement M
 state-at-spec = tie.close (tie.spec word-requires returns)

@@ -17,7 +17,6 @@ abbrev μ-loop : tie.MeasureT-loop
 μ-loop t₀ width n row f₀ t f = width - f
 
 loop-holds : tie.Need-loop-holds Inv-loop μ-loop
-unfolding putRow putWord
 loop-holds c = (search needs, refl, refl)
 
 cast-get : tie.Need-cast-get Inv-loop μ-loop
@@ -36,14 +35,14 @@ loop-less : tie.Need-loop-less Inv-loop μ-loop
 loop-less c = omega arith
 
 loop-again : tie.Need-loop-again Inv-loop μ-loop
-unfolding putRow putWord
+unfolding putWord
 loop-again c = (omega arith, c .before .before .put-word .kept .0 ∙ c .before .before .before .before .before .before .loop .inv .1, rw (c .before .before .put-word .ensures, c .before .before .before .before .get .ensures, c .before .before .before .before .before .before .loop .inv .2) (sets-more _ _ _ (c .before .before .before .before .before .before .loop .f) (omega arith)))
 
 same-length : tie.Need-same-length Inv-loop μ-loop
 same-length c = search needs
 
 returns : tie.Need-returns Inv-loop μ-loop
-unfolding putRow putWord
+unfolding putRow
 returns c = let e : c .before .loop .f ≡ length (c .before .before .before .before .args .row .now) = omega arith in c .before .loop .inv .2 ∙ rw (e, take-length _)
 
 pub put-row-spec : {M : Type 1} → statement M

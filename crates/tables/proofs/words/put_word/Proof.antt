@@ -20,7 +20,7 @@ same-length c = search needs
 
 returns : tie.Need-returns
 unfolding putWord
-returns c = (c .before .before .put .ensures)
+returns c = c .before .before .put .ensures
 
 pub put-word-spec : {M : Type 1} → statement M
 put-word-spec = tie.close (tie.spec mul-put add-put put-requires same-length returns)

@@ -17,7 +17,7 @@ get-requires c κs = search needs
 
 returns : tie.Need-returns
 unfolding word
-returns c = (c .get .ensures)
+returns c = c .get .ensures
 
 pub word-spec : {M : Type 1} → statement M
 word-spec = tie.close (tie.spec mul-get add-get get-requires returns)
