@@ -95,11 +95,11 @@ fn three_nodes(nodes: &mut [u32], u: u32, k: Key, l: NodeNo, q: Phase)
     requires { ⌜ u ≤ mostN ⌝ }
     ensures { λ r. ⌜ now (nodes .exit) ≡ threeNodes (now (nodes .entry)) u k l q ⌝ }
 {
-    let a = finite(k);
-    let b = rank_at(nodes, l);
     let none = NodeNo(0);
     let new = NodeNo(u);
     let sibling = NodeNo(u + 1);
+    let a = finite(k);
+    let b = rank_at(nodes, l);
     new_node(nodes, new, LEAF, a, q, MaybeNode::Absent, none, none);
     new_node(nodes, sibling, LEAF, b, q, MaybeNode::Absent, none, none);
     top_of(nodes, new, sibling, NodeNo(u + 2), k, b, q, l);

@@ -4,14 +4,14 @@ use Rattle.steps.specs.Apply.{threeNodes}
 use Rattle.effects.proofs.three_nodes.Statement.{statement}
 use Rattle.effects.proofs.three_nodes.Tie as tie
 
+add-t11 : tie.Need-add-t11
+add-t11 c = search needs
+
 finite-requires : tie.Need-finite-requires
 finite-requires c κs = search needs
 
 rank-at-requires : tie.Need-rank-at-requires
 rank-at-requires c κs = search needs
-
-add-t13 : tie.Need-add-t13
-add-t13 c = search needs
 
 new-node-requires : tie.Need-new-node-requires
 new-node-requires c κs = search needs
@@ -19,8 +19,8 @@ new-node-requires c κs = search needs
 new-node-requires-2 : tie.Need-new-node-requires-2
 new-node-requires-2 c κs = search needs
 
-add-t13-2 : tie.Need-add-t13-2
-add-t13-2 c = search needs
+add-t11-2 : tie.Need-add-t11-2
+add-t11-2 c = search needs
 
 top-of-requires : tie.Need-top-of-requires
 top-of-requires c κs = search needs
@@ -36,12 +36,12 @@ pub three-nodes-spec : {M : Type 1} → statement M
 three-nodes-spec =
     tie.close
     (tie.spec
+    add-t11
     finite-requires
     rank-at-requires
-    add-t13
     new-node-requires
     new-node-requires-2
-    add-t13-2
+    add-t11-2
     top-of-requires
     same-length
     returns)
