@@ -8,3 +8,4 @@ pub mod Frame
 pub mod Rely
 pub mod RelyMore
 pub mod Helper
+pub mod Trees

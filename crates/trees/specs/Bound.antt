@@ -20,18 +20,18 @@ pub is-early : (S : Store) (i n : ℕ) → S .leaf n ≡ false → S .phase n �
 unfolding early
 is-early S i n inner low = rw (inner, le-leb (S .phase n) i low)
 
-module _ (used : ℕ) {S : Store} {i : ℕ} {us vs ls : List ℕ} where
+module _ (used : ℕ) {S : Store} {i : ℕ} {a : Bool} {us vs ls : List ℕ} where
   -- internal nodes: xs is vs, or us
-  pub visited-most : {stand : Stand} (xs : List ℕ) → Scanning S i stand us vs ls → Distinct xs → All (λ n. Mem n vs) xs → All (λ n. n < used) xs → length xs ≤ count used (early S i)
+  pub visited-most : {stand : Stand} (xs : List ℕ) → Scanning S i a stand us vs ls → Distinct xs → All (λ n. Mem n vs) xs → All (λ n. n < used) xs → length xs ≤ count used (early S i)
   visited-most xs G d of below = distinct-count used (early S i) xs d below (λ n m. is-early S i n (G .been .inner n (of n m)) (G .been .low n (of n m)))
 
-  pub visiting-most : {cur : ℕ} (xs : List ℕ) → Scanning S i (at cur) us vs ls → S .leaf cur ≡ false → Distinct xs → All (λ n. Mem n vs) xs → All (λ n. n < used) (cur ∷ xs) → length xs < count used (early S i)
+  pub visiting-most : {cur : ℕ} (xs : List ℕ) → Scanning S i a (at cur) us vs ls → S .leaf cur ≡ false → Distinct xs → All (λ n. Mem n vs) xs → All (λ n. n < used) (cur ∷ xs) → length xs < count used (early S i)
   visiting-most {cur} xs G inner d of below = distinct-count used (early S i) (cur ∷ xs) (λ m. current-new G .0 (of cur m), d) below
       (λ n. elim [ inl e ↦ rw e (is-early S i cur inner (G .reads .0)) | inr m ↦ is-early S i n (G .been .inner n (of n m)) (G .been .low n (of n m)) ])
 
   -- leaves
-  pub seen-most : {stand : Stand} → Scanning S i stand us vs ls → All (λ n. n < used) ls → length ls ≤ count used (S .leaf)
+  pub seen-most : {stand : Stand} → Scanning S i a stand us vs ls → All (λ n. n < used) ls → length ls ≤ count used (S .leaf)
   seen-most G below = distinct-count used (S .leaf) ls (G .been .distinct-leaves) below (G .been .leaves)
 
-  pub seeing-most : {cur : ℕ} → Scanning S i (at cur) us vs ls → S .leaf cur ≡ true → All (λ n. n < used) (cur ∷ ls) → length ls < count used (S .leaf)
+  pub seeing-most : {cur : ℕ} → Scanning S i a (at cur) us vs ls → S .leaf cur ≡ true → All (λ n. n < used) (cur ∷ ls) → length ls < count used (S .leaf)
   seeing-most {cur} G leaf below = distinct-count used (S .leaf) (cur ∷ ls) (current-new G .2, G .been .distinct-leaves) below (λ n. elim [ inl e ↦ rw e leaf | inr m ↦ G .been .leaves n m ])
