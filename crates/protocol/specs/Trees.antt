@@ -83,8 +83,11 @@ TreeStep X X′ G G′ = Leaves X X′ G G′ ⊎ Links X X′ G G′
 
 leaves-agree : (X X′ : View) (G G′ : Ghost) → Leaves X X′ G G′ → Agree (store X) (store X′) (Linked G)
 leaves-agree X X′ G G′ L = record {
-  phase = λ n u. ap (λ (f : Fixed). f .phase) (L .fixed n u); prev = λ n u. ap (λ (f : Fixed). f .prev) (L .fixed n u);
-  leaf = λ n u. ap leafOf (L .fixed n u); kid = λ e n u h. L .kid e n u }
+  phase = λ n u. ap (λ (f : Fixed). f .phase) (L .fixed n u);
+  prev = λ n u. ap (λ (f : Fixed). f .prev) (L .fixed n u);
+  leaf = λ n u. ap leafOf (L .fixed n u);
+  kid = λ e n u h. L .kid e n u;
+}
 
 module _ (X X′ : View) (G G′ : Ghost) (H : Holds X G) where
   -- the versions stay trees
