@@ -9,3 +9,4 @@ pub mod Rely
 pub mod RelyMore
 pub mod Helper
 pub mod Trees
+pub mod Linking
