@@ -101,6 +101,7 @@ module _ (X : View) (G : Ghost) (H : Holds X G) (r : ℕ) (f : Filling) (F : Fil
     later = λ v h. absurd (true≢false (sym h ∙ none .2 v));
     holds = λ v h. absurd (true≢false (sym h ∙ none .2 v));
     tried-state = λ h. absurd (true≢false (sym h ∙ none .1));
+    trying-tried = λ e. let z : _≡_ {A = ℕ} undecided trying = sym (change-same (X .state) r undecided) ∙ e in absurd (omega arith);
     most = rw (change-same (X .state) r undecided) (omega arith);
     commits = λ e. let z : undecided ≡ committed = sym (change-same (X .state) r undecided) ∙ e in absurd (omega arith);
     aborts = λ e. let z : undecided ≡ aborted = sym (change-same (X .state) r undecided) ∙ e in absurd (omega arith);
@@ -155,6 +156,7 @@ module _ (X : View) (G : Ghost) (H : Holds X G) (r : ℕ) (f : Filling) (F : Fil
       later = λ v h. rw (stamp-q, word-stamp v (was .frozen v h)) (was .later v h);
       holds = λ v h live. was .holds v h (rw (state-same q ne) at live);
       tried-state = λ h. rw (state-same q ne) (was .tried-state h);
+      trying-tried = λ e. was .trying-tried (sym (state-same q ne) ∙ e);
       most = rw (state-same q ne) (was .most);
       commits = λ e. was .commits (sym (state-same q ne) ∙ e);
       aborts = λ e t. let h = was .aborts (sym (state-same q ne) ∙ e) t in record { at = h .at; list = h .list; before = h .before; not = h .not; gone = passed′ (h .at) (h .list) (h .gone) };

@@ -139,6 +139,7 @@ module _ (X X′ : View) (G G′ : Ghost) (P : ℕ → Type 0) (H : Holds X G) (
       later = λ v h. let z = rw (A .froze) at h in rw (A .stamp, A .update v (was .frozen v z)) (was .later v z);
       holds = λ v h live. let z = rw (A .froze) at h in rw (A .update v (was .frozen v z)) (was .holds v z (rw state-same at live));
       tried-state = λ h. rw state-same (was .tried-state (rw (A .tried) at h));
+      trying-tried = λ e. rw (A .tried) (was .trying-tried (sym state-same ∙ e));
       most = rw state-same (was .most);
       commits = λ e. let c = was .commits (sym state-same ∙ e) in (rw (A .tried) (c .0), (λ i l. rw (A .froze) (c .1 i l)), λ d. c .2 (sym link-same ∙ d));
       aborts = λ e t. lost′ (was .aborts (sym state-same ∙ e) (rw (A .tried) at t));

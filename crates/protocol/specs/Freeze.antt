@@ -115,6 +115,7 @@ module _ (X : View) (G : Ghost) (H : Holds X G) (r j m : ℕ) (f : Filled X r) (
           | inr p ↦ rw (p .1, change-same (X .update) x u) (sym (p .0))
         ];
         tried-state = was .tried-state;
+        trying-tried = was .trying-tried;
         most = was .most;
         commits = λ e. let c = was .commits e in (c .0, (λ k i. froze-more G r x q _ (c .1 k i)), c .2);
         aborts = λ e t. by-equal q r (λ d. let z : X .state r ≡ aborted = rw d at e in absurd (omega (arith, live))) (λ d. lost′ d (was .aborts e t));

@@ -56,6 +56,7 @@ pub record RecordHolds (X : View) (G : Ghost) (r : ℕ) (f : Filling) : Type 0 w
   pub holds : (v : ℕ) → G .froze r v ≡ true → Live X r → X .update v .info .0 ≡ r
   -- its state
   pub tried-state : G .tried r ≡ true → trying ≤ X .state r
+  pub trying-tried : X .state r ≡ trying → G .tried r ≡ true
   pub most : X .state r ≤ aborted
   pub commits : X .state r ≡ committed → (G .tried r ≡ true) × FrozeAll G r f × Past X f
   pub aborts : X .state r ≡ aborted → G .tried r ≡ true → Lost X G r f

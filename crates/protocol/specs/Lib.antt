@@ -10,3 +10,4 @@ pub mod RelyMore
 pub mod Helper
 pub mod Trees
 pub mod Linking
+pub mod HelpTurns

@@ -90,7 +90,7 @@ module _ (X : View) (G : Ghost) (H : Holds X G) (r : ℕ) (f : Filled X r) (t : 
           let linked : G .linked (oldChildOf (X .filling q)) ≡ true = rw (← Q .second) (Q .linked 2 (record { low = omega arith; high = Q .two })) in
           apart (oldChildOf (X .filling q)) (newChildOf (X .filling r)) linked new-fresh e
 
-  mine-past : Past X′ (X .filling r)
+  pub mine-past : Past X′ (X .filling r)
   mine-past = rw (kid-here (X .kid) (sideOf X (X .filling r)) (parOf (X .filling r)) (newChildOf (X .filling r))) (apart (oldChildOf (X .filling r)) (newChildOf (X .filling r)) old-linked new-fresh)
 
   open-was : (q : ℕ) → Filled X q → linkOf X′ (X .filling q) ≡ oldChildOf (X .filling q) → (q ≢ r) × (linkOf X (X .filling q) ≡ oldChildOf (X .filling q))
@@ -143,6 +143,7 @@ module _ (X : View) (G : Ghost) (H : Holds X G) (r : ℕ) (f : Filled X r) (t : 
           later = was .later;
           holds = was .holds;
           tried-state = was .tried-state;
+          trying-tried = was .trying-tried;
           most = was .most;
           commits = λ e. let c = was .commits e in (c .0, (λ k i. c .1 k i), past′ q (filled-was q g) (c .2));
           aborts = λ e d. let h = was .aborts e d in record { at = h .at; list = h .list; before = h .before; not = h .not; gone = h .gone };

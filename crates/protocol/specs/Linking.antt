@@ -15,7 +15,7 @@ use Rattle.trees.specs.Version.{Store, setKid}
 use Rattle.trees.specs.Change.{Fits}
 use Rattle.trees.specs.Updates.{Insert, Delete, insert-fits, delete-fits}
 use Rattle.views.specs.View.{View, wKid}
-use Rattle.protocol.specs.Ghost.{Ghost, nodeOf, oldOf, parOf, oldChildOf, newChildOf, seqOf, sideOf, linkOf, Filled, InList, FrozeAll, Live}
+use Rattle.protocol.specs.Ghost.{Ghost, nodeOf, oldOf, parOf, oldChildOf, newChildOf, seqOf, sideOf, linkOf, Filled, InList, Past, FrozeAll, Live}
 use Rattle.protocol.specs.Invariant.{Planted, Held, Copied, RecordHolds, Holds}
 use Rattle.protocol.specs.Link.{gLinked, kid-other, link-holds}
 use Rattle.protocol.specs.Link as linking
@@ -129,19 +129,19 @@ module _ (w : ℕ) (X : View) (G : Ghost) (H : Holds X G) (r : ℕ) (g : Filled 
   absent-no m y a b = let z : _≡_ {A = ℕ} 0 1 = cc in absurd (omega arith)
 
   -- the turn as a whole
-  pub record Linked′ : Type 0 where
+  pub record LinkedTurn : Type 0 where
     pub after : Ghost
     pub holds : Holds X′ after
     pub rely : Rely w X X′ G after
-    pub past : G .linked (oldChildOf (X .filling r)) ≡ true
+    pub past : Past X′ (X .filling r)
 
-  copied-link : Copied X G r (X .filling r) → Linked′
+  copied-link : Copied X G r (X .filling r) → LinkedTurn
   copied-link c =
       record {
         after = gLinked G L;
         holds = link-holds X G H r g t all hit L more only (change-same (G .linked) _ true) used′ kids′ prevs′;
         rely = rely-link w X G H r g t all hit L more only;
-        past = old-linked;
+        past = linking.mine-past X G H r g t all hit;
       }
     where
       L : ℕ → Bool
@@ -170,13 +170,13 @@ module _ (w : ℕ) (X : View) (G : Ghost) (H : Holds X G) (r : ℕ) (g : Filled 
       prevs′ : (n y : ℕ) → L n ≡ true → G .linked n ≡ false → X .fixed n .prev ≡ At (node y) → L y ≡ true
       prevs′ n y h u p = elim (linked-was (G .linked) _ n h) [ inl e ↦ rw (prev-is y (rw e at p)) (more _ old-linked) | inr d ↦ not-both _ d u ]
 
-  planted-link : Planted X G r (X .filling r) → Linked′
+  planted-link : Planted X G r (X .filling r) → LinkedTurn
   planted-link p =
       record {
         after = gLinked G L;
         holds = link-holds X G H r g t all hit L more only now used′ kids′ prevs′;
         rely = rely-link w X G H r g t all hit L more only;
-        past = old-linked;
+        past = linking.mine-past X G H r g t all hit;
       }
     where
       L1 : ℕ → Bool
@@ -232,5 +232,5 @@ module _ (w : ℕ) (X : View) (G : Ghost) (H : Holds X G) (r : ℕ) (g : Filled 
         | inr (inr (inr d)) ↦ not-both _ d u
       ]
 
-  pub linked-step : Linked′
+  pub linked-step : LinkedTurn
   linked-step = elim (R .kind) [ inl p ↦ planted-link p | inr c ↦ copied-link c ]
