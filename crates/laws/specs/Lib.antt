@@ -1,5 +1,6 @@
 pub mod Choice
 pub mod Tests
+pub mod Every
 pub mod Outcomes
 pub mod Parts
 pub mod Opened

@@ -2,7 +2,8 @@
 use Prim.Native.Nat.{ℕ}
 use Rattle.laws.specs.Choice.{pick}
 use Rattle.laws.specs.Tests.{all, every}
+use Rattle.laws.specs.Every.{joined}
 
 unfoldable pub lawsOpened : ℕ
-unfolding pick all every
+unfolding pick all every joined
 lawsOpened = 0

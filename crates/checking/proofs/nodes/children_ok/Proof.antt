@@ -1,0 +1,48 @@
+use borrow.Author.Needs.{needs}
+use Rattle.checking.proofs.nodes.children_ok.Statement.{statement}
+use Rattle.checking.proofs.nodes.children_ok.Tie as tie
+use Rattle.checking.proofs.nodes.children_ok.Reads as reads
+use Rattle.checking.proofs.nodes.children_ok.Lts as lts
+use Rattle.checking.proofs.numbers.used_node.Reads as used-node-reads
+use Rattle.tables.proofs.child_at.Reads as child-at-reads
+use Rattle.tables.proofs.is_internal.Reads as is-internal-reads
+
+-- src/nodes.rt:68:9
+child-at-requires : tie.Need-child-at-requires
+child-at-requires c κs = search needs
+
+-- src/nodes.rt:69:9
+child-at-requires-2 : tie.Need-child-at-requires-2
+child-at-requires-2 c κs = search needs
+
+-- src/nodes.rt:70:8
+is-internal-requires : tie.Need-is-internal-requires
+is-internal-requires c κs = search needs
+
+-- src/nodes.rt:71:9
+used-node-requires : tie.Need-used-node-requires
+used-node-requires c κs = search needs
+
+-- src/nodes.rt:71:30
+used-node-requires-2 : tie.Need-used-node-requires-2
+used-node-requires-2 c κs = search needs
+
+-- src/nodes.rt:65:1
+returns : tie.Need-returns
+returns c = ?
+
+-- src/nodes.rt:65:1
+returns-2 : tie.Need-returns-2
+returns-2 c = ?
+
+pub children-ok-spec : {M : Type 1} → statement M
+children-ok-spec =
+    tie.close
+    (tie.spec
+    child-at-requires
+    child-at-requires-2
+    is-internal-requires
+    used-node-requires
+    used-node-requires-2
+    returns
+    returns-2)

@@ -1,0 +1,24 @@
+use borrow.Author.Needs.{needs}
+use Rattle.checking.proofs.nodes.prev_ok.Statement.{statement}
+use Rattle.checking.proofs.nodes.prev_ok.Tie as tie
+use Rattle.checking.proofs.nodes.prev_ok.Reads as reads
+use Rattle.checking.proofs.nodes.prev_ok.Lts as lts
+
+-- src/nodes.rt:59:30
+enum-told : tie.Need-enum-told
+enum-told c = search needs
+
+-- src/nodes.rt:60:23
+enum-known-m : tie.Need-enum-known-m
+enum-known-m c = search needs
+
+-- src/nodes.rt:55:1
+returns : tie.Need-returns
+returns c = ?
+
+-- src/nodes.rt:55:1
+returns-2 : tie.Need-returns-2
+returns-2 c = ?
+
+pub prev-ok-spec : {M : Type 1} → statement M
+prev-ok-spec = tie.close (tie.spec enum-told enum-known-m returns returns-2)

@@ -1,0 +1,11 @@
+use Rattle.checking.proofs.nodes.rank_ok.Statement.{statement}
+use Rattle.checking.proofs.nodes.rank_ok.Tie as tie
+use Rattle.checking.proofs.nodes.rank_ok.Reads as reads
+use Rattle.checking.proofs.nodes.rank_ok.Lts as lts
+
+-- src/nodes.rt:48:1
+returns : tie.Need-returns
+returns c = ?
+
+pub rank-ok-spec : {M : Type 1} → statement M
+rank-ok-spec = tie.close (tie.spec returns)

@@ -1,0 +1,11 @@
+use Rattle.checking.proofs.numbers.phase_ok.Statement.{statement}
+use Rattle.checking.proofs.numbers.phase_ok.Tie as tie
+use Rattle.checking.proofs.numbers.phase_ok.Reads as reads
+use Rattle.checking.proofs.numbers.phase_ok.Lts as lts
+
+-- src/numbers.rt:46:1
+returns : tie.Need-returns
+returns c = ?
+
+pub phase-ok-spec : {M : Type 1} → statement M
+phase-ok-spec = tie.close (tie.spec returns)

@@ -1,0 +1,29 @@
+use borrow.Author.Needs.{needs}
+use Rattle.checking.proofs.numbers.used_maybe.Statement.{statement}
+use Rattle.checking.proofs.numbers.used_maybe.Tie as tie
+use Rattle.checking.proofs.numbers.used_maybe.Reads as reads
+use Rattle.checking.proofs.numbers.used_maybe.Lts as lts
+use Rattle.checking.proofs.numbers.used_node.Reads as used-node-reads
+
+-- src/numbers.rt:29:30
+enum-told : tie.Need-enum-told
+enum-told c = search needs
+
+-- src/numbers.rt:30:23
+enum-known-m : tie.Need-enum-known-m
+enum-known-m c = search needs
+
+-- src/numbers.rt:30:29
+used-node-requires : tie.Need-used-node-requires
+used-node-requires c κs = search needs
+
+-- src/numbers.rt:25:1
+returns : tie.Need-returns
+returns c = ?
+
+-- src/numbers.rt:25:1
+returns-2 : tie.Need-returns-2
+returns-2 c = ?
+
+pub used-maybe-spec : {M : Type 1} → statement M
+used-maybe-spec = tie.close (tie.spec enum-told enum-known-m used-node-requires returns returns-2)

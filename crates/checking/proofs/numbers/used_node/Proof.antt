@@ -1,0 +1,11 @@
+use Rattle.checking.proofs.numbers.used_node.Statement.{statement}
+use Rattle.checking.proofs.numbers.used_node.Tie as tie
+use Rattle.checking.proofs.numbers.used_node.Reads as reads
+use Rattle.checking.proofs.numbers.used_node.Lts as lts
+
+-- src/numbers.rt:19:1
+returns : tie.Need-returns
+returns c = ?
+
+pub used-node-spec : {M : Type 1} → statement M
+used-node-spec = tie.close (tie.spec returns)

@@ -1,0 +1,11 @@
+use Rattle.checking.proofs.numbers.used_record.Statement.{statement}
+use Rattle.checking.proofs.numbers.used_record.Tie as tie
+use Rattle.checking.proofs.numbers.used_record.Reads as reads
+use Rattle.checking.proofs.numbers.used_record.Lts as lts
+
+-- src/numbers.rt:34:1
+returns : tie.Need-returns
+returns c = ?
+
+pub used-record-spec : {M : Type 1} → statement M
+used-record-spec = tie.close (tie.spec returns)
