@@ -19,8 +19,10 @@ use tables::state_at;
 ghost use mathlib.Core.Path.{_≡_};
 ghost use Prim.Native.Nat.{suc, _-_};
 ghost use lib.ListN.{getD};
+ghost use lib.Dec.{eqb};
+ghost use Rattle.tables.specs.Names.{dummy};
 ghost use Rattle.laws.specs.Tests.{every};
-ghost use Rattle.tables.specs.Records.{recordRow, aborted, unfilled, entryAt};
+ghost use Rattle.tables.specs.Records.{recordWord, recordRow, aborted, unfilled, entryAt};
 ghost use Rattle.tables.specs.World.{tables};
 ghost use Rattle.sound.specs.Sound.{dummyOk, entryOk, countOk, recordOk};
 
@@ -32,22 +34,26 @@ const ABORT: u32 = 3;
 // Whether an entry is to be marked: 0 or 1.
 const TO_MARK: u32 = 1;
 
-// Word f of the dummy: nothing but its state.
-fn dummy_word(f: u32) -> u32
-    ensures { λ r. ⌜ r ≡ getD (recordRow aborted unfilled) f 0 ⌝ }
+// Word f of the dummy, which is record 0 and so comes first: nothing but its state.
+fn dummy_word_ok(rs: &[u32], f: u32) -> bool
+    ensures { λ r. ⌜ r ≡ eqb (recordWord (now (rs .entry)) dummy f) (getD (recordRow aborted unfilled) f 0) ⌝ }
 {
-    if f == STATE { ABORT } else { 0 }
+    let word = get(rs, f as usize);
+    if f == STATE {
+        word == ABORT
+    } else {
+        word == 0
+    }
 }
 
-// The dummy as fresh; it is record 0, so its words come first.
+// The dummy as fresh.
 pub fn dummy_ok(rs: &[u32]) -> bool
     ensures { λ r. ⌜ r ≡ dummyOk (now (rs .entry)) ⌝ }
 {
     let mut f = RECORD_WIDTH;
     while 0 < f {
         f -= 1;
-        let same = get(rs, f as usize) == dummy_word(f);
-        if !same {
+        if !dummy_word_ok(rs, f) {
             return false;
         }
     }

@@ -1,6 +1,7 @@
 pub mod Choice
 pub mod Tests
 pub mod Every
+pub mod Arms
 pub mod Outcomes
 pub mod Parts
 pub mod Opened

@@ -1,3 +1,6 @@
+use mathlib.Core.Path.{refl}
+use Rattle.laws.specs.Choice.{pick}
+use Rattle.sound.specs.Sound.{childrenOk}
 use borrow.Author.Needs.{needs}
 use Rattle.checking.proofs.nodes.children_ok.Statement.{statement}
 use Rattle.checking.proofs.nodes.children_ok.Tie as tie
@@ -29,11 +32,13 @@ used-node-requires-2 c κs = search needs
 
 -- src/nodes.rt:65:1
 returns : tie.Need-returns
-returns c = ?
+unfolding childrenOk pick
+returns c = rw (← c .before .before .before .before .before .child-at .ensures, ← c .before .before .before .before .child-at2 .ensures, ← c .before .before .before .is-internal .ensures, ← c .before .used-node .ensures, ← c .used-node2 .ensures, c .before .before .if1 .taken) refl
 
 -- src/nodes.rt:65:1
 returns-2 : tie.Need-returns-2
-returns-2 c = ?
+unfolding childrenOk pick
+returns-2 c = rw (← c .before .before .before .before .before .child-at .ensures, ← c .before .before .before .before .child-at2 .ensures, ← c .before .before .before .is-internal .ensures, c .before .before .if1 .left) refl
 
 pub children-ok-spec : {M : Type 1} → statement M
 children-ok-spec =

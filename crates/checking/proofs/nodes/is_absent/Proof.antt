@@ -1,3 +1,5 @@
+use mathlib.Core.Path.{refl}
+use Rattle.sound.specs.Sound.{isAbsent}
 use borrow.Author.Needs.{needs}
 use Rattle.checking.proofs.nodes.is_absent.Statement.{statement}
 use Rattle.checking.proofs.nodes.is_absent.Tie as tie
@@ -14,11 +16,13 @@ enum-told-2 c = search needs
 
 -- src/nodes.rt:25:1
 returns : tie.Need-returns
-returns c = ?
+unfolding isAbsent
+returns c = rw (c .enum-told .given .1) refl
 
 -- src/nodes.rt:25:1
 returns-2 : tie.Need-returns-2
-returns-2 c = ?
+unfolding isAbsent
+returns-2 c = rw (c .enum-told2 .given .1) refl
 
 pub is-absent-spec : {M : Type 1} → statement M
 is-absent-spec = tie.close (tie.spec enum-told enum-told-2 returns returns-2)

@@ -1,3 +1,6 @@
+use mathlib.Core.Path.{sym}
+use Rattle.laws.specs.Every.{joined, all-joined}
+use Rattle.sound.specs.Sound.{nodeOk}
 use borrow.Author.Needs.{needs}
 use Rattle.checking.proofs.nodes.node_ok.Statement.{statement}
 use Rattle.checking.proofs.nodes.node_ok.Tie as tie
@@ -56,7 +59,8 @@ children-ok-requires c κs = search needs
 
 -- src/nodes.rt:77:1
 returns : tie.Need-returns
-returns c = ?
+unfolding nodeOk joined
+returns c = rw (c .children-ok .ensures, c .before .word-ok .ensures, c .before .before .update-at .ensures, c .before .before .before .prev-ok .ensures, c .before .before .before .before .prev-at .ensures, c .before .before .before .before .before .phase-ok .ensures, c .before .before .before .before .before .before .phase-at .ensures, c .before .before .before .before .before .before .before .rank-ok .ensures, c .before .before .before .before .before .before .before .before .rank-at .ensures, c .before .before .before .before .before .before .before .before .before .kind-at .ensures) (sym (all-joined _ _))
 
 pub node-ok-spec : {M : Type 1} → statement M
 node-ok-spec =

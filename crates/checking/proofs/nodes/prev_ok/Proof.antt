@@ -1,3 +1,5 @@
+use mathlib.Core.Path.{refl}
+use Rattle.sound.specs.Sound.{prevOk}
 use borrow.Author.Needs.{needs}
 use Rattle.checking.proofs.nodes.prev_ok.Statement.{statement}
 use Rattle.checking.proofs.nodes.prev_ok.Tie as tie
@@ -14,11 +16,13 @@ enum-known-m c = search needs
 
 -- src/nodes.rt:55:1
 returns : tie.Need-returns
-returns c = ?
+unfolding prevOk
+returns c = rw (c .enum-told .given .1) refl
 
 -- src/nodes.rt:55:1
 returns-2 : tie.Need-returns-2
-returns-2 c = ?
+unfolding prevOk
+returns-2 c = rw (c .before .before .m .given .1) refl
 
 pub prev-ok-spec : {M : Type 1} → statement M
 prev-ok-spec = tie.close (tie.spec enum-told enum-known-m returns returns-2)

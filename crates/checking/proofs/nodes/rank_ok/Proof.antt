@@ -1,3 +1,5 @@
+use mathlib.Core.Path.{refl}
+use Rattle.sound.specs.Sound.{rankOk}
 use Rattle.checking.proofs.nodes.rank_ok.Statement.{statement}
 use Rattle.checking.proofs.nodes.rank_ok.Tie as tie
 use Rattle.checking.proofs.nodes.rank_ok.Reads as reads
@@ -5,7 +7,8 @@ use Rattle.checking.proofs.nodes.rank_ok.Lts as lts
 
 -- src/nodes.rt:48:1
 returns : tie.Need-returns
-returns c = ?
+unfolding rankOk
+returns c = refl
 
 pub rank-ok-spec : {M : Type 1} → statement M
 rank-ok-spec = tie.close (tie.spec returns)

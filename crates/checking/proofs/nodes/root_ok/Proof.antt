@@ -1,3 +1,6 @@
+use mathlib.Core.Path.{sym}
+use Rattle.laws.specs.Every.{joined, all-joined}
+use Rattle.sound.specs.Sound.{rootOk}
 use borrow.Author.Needs.{needs}
 use Rattle.checking.proofs.nodes.root_ok.Statement.{statement}
 use Rattle.checking.proofs.nodes.root_ok.Tie as tie
@@ -31,7 +34,8 @@ is-absent-requires c κs = search needs
 
 -- src/nodes.rt:35:1
 returns : tie.Need-returns
-returns c = ?
+unfolding rootOk joined
+returns c = rw (c .is-absent .ensures, c .before .prev-at .ensures, c .before .before .phase-at .ensures, c .before .before .before .before .before .kind-at .ensures, c .before .before .before .before .before .before .rank-at .ensures) (sym (all-joined _ _))
 
 pub root-ok-spec : {M : Type 1} → statement M
 root-ok-spec =

@@ -1,3 +1,5 @@
+use mathlib.Core.Path.{refl}
+use Rattle.sound.specs.Sound.{phaseOk}
 use Rattle.checking.proofs.numbers.phase_ok.Statement.{statement}
 use Rattle.checking.proofs.numbers.phase_ok.Tie as tie
 use Rattle.checking.proofs.numbers.phase_ok.Reads as reads
@@ -5,7 +7,8 @@ use Rattle.checking.proofs.numbers.phase_ok.Lts as lts
 
 -- src/numbers.rt:46:1
 returns : tie.Need-returns
-returns c = ?
+unfolding phaseOk
+returns c = refl
 
 pub phase-ok-spec : {M : Type 1} → statement M
 phase-ok-spec = tie.close (tie.spec returns)

@@ -1,3 +1,5 @@
+use mathlib.Core.Path.{refl}
+use Rattle.sound.specs.Sound.{usedMaybe}
 use borrow.Author.Needs.{needs}
 use Rattle.checking.proofs.numbers.used_maybe.Statement.{statement}
 use Rattle.checking.proofs.numbers.used_maybe.Tie as tie
@@ -19,11 +21,13 @@ used-node-requires c κs = search needs
 
 -- src/numbers.rt:25:1
 returns : tie.Need-returns
-returns c = ?
+unfolding usedMaybe
+returns c = rw (c .enum-told .given .1) refl
 
 -- src/numbers.rt:25:1
 returns-2 : tie.Need-returns-2
-returns-2 c = ?
+unfolding usedMaybe
+returns-2 c = rw (c .before .before .m .given .1) (c .used-node .ensures)
 
 pub used-maybe-spec : {M : Type 1} → statement M
 used-maybe-spec = tie.close (tie.spec enum-told enum-known-m used-node-requires returns returns-2)

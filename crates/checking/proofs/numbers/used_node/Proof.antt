@@ -1,3 +1,5 @@
+use mathlib.Core.Path.{refl}
+use Rattle.sound.specs.Sound.{usedNode}
 use Rattle.checking.proofs.numbers.used_node.Statement.{statement}
 use Rattle.checking.proofs.numbers.used_node.Tie as tie
 use Rattle.checking.proofs.numbers.used_node.Reads as reads
@@ -5,7 +7,8 @@ use Rattle.checking.proofs.numbers.used_node.Lts as lts
 
 -- src/numbers.rt:19:1
 returns : tie.Need-returns
-returns c = ?
+unfolding usedNode
+returns c = refl
 
 pub used-node-spec : {M : Type 1} → statement M
 used-node-spec = tie.close (tie.spec returns)

@@ -1,3 +1,6 @@
+use mathlib.Core.Path.{sym}
+use Rattle.laws.specs.Every.{joined, all-joined}
+use Rattle.sound.specs.Sound.{usedOk}
 use borrow.Author.Needs.{needs}
 use Rattle.checking.proofs.numbers.used_ok.Statement.{statement}
 use Rattle.checking.proofs.numbers.used_ok.Tie as tie
@@ -15,7 +18,8 @@ between-requires-2 c κs = search needs
 
 -- src/numbers.rt:52:1
 returns : tie.Need-returns
-returns c = ?
+unfolding usedOk joined
+returns c = rw (c .before .between2 .ensures, c .before .before .between .ensures) (sym (all-joined _ _))
 
 pub used-ok-spec : {M : Type 1} → statement M
 used-ok-spec = tie.close (tie.spec between-requires between-requires-2 returns)

@@ -1,3 +1,5 @@
+use mathlib.Core.Path.{refl}
+use Rattle.sound.specs.Sound.{usedRecord}
 use Rattle.checking.proofs.numbers.used_record.Statement.{statement}
 use Rattle.checking.proofs.numbers.used_record.Tie as tie
 use Rattle.checking.proofs.numbers.used_record.Reads as reads
@@ -5,7 +7,8 @@ use Rattle.checking.proofs.numbers.used_record.Lts as lts
 
 -- src/numbers.rt:34:1
 returns : tie.Need-returns
-returns c = ?
+unfolding usedRecord
+returns c = refl
 
 pub used-record-spec : {M : Type 1} → statement M
 used-record-spec = tie.close (tie.spec returns)

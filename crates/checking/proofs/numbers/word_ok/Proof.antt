@@ -1,3 +1,4 @@
+use Rattle.sound.specs.Sound.{wordOk}
 use borrow.Author.Needs.{needs}
 use Rattle.checking.proofs.numbers.word_ok.Statement.{statement}
 use Rattle.checking.proofs.numbers.word_ok.Tie as tie
@@ -11,7 +12,8 @@ used-record-requires c κs = search needs
 
 -- src/numbers.rt:40:1
 returns : tie.Need-returns
-returns c = ?
+unfolding wordOk
+returns c = rw (c .used-record .ensures)
 
 pub word-ok-spec : {M : Type 1} → statement M
 word-ok-spec = tie.close (tie.spec used-record-requires returns)

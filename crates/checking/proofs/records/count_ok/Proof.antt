@@ -1,3 +1,4 @@
+use Rattle.sound.specs.Sound.{countOk}
 use borrow.Author.Needs.{needs}
 use Rattle.checking.proofs.records.count_ok.Statement.{statement}
 use Rattle.checking.proofs.records.count_ok.Tie as tie
@@ -11,7 +12,8 @@ is-internal-requires c κs = search needs
 
 -- src/records.rt:64:1
 returns : tie.Need-returns
-returns c = ?
+unfolding countOk
+returns c = rw (c .is-internal .ensures)
 
 pub count-ok-spec : {M : Type 1} → statement M
 count-ok-spec = tie.close (tie.spec is-internal-requires returns)

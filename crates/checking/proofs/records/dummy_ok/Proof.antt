@@ -1,51 +1,53 @@
+use mathlib.Core.Path.{_≡_, refl, sym}
+use Prim.Native.Nat.{ℕ}
+use lib.ListN.{getD}
+use lib.Dec.{eqb}
+use borrow.Author.Needs.{needs}
+use Rattle.laws.specs.Tests.{every}
+use Rattle.laws.specs.Every.{stops, goes-on, ends}
+use Rattle.tables.specs.Names.{dummy}
+use Rattle.tables.specs.Records.{recordWord, recordRow, aborted, unfilled, recordWidth}
+use Rattle.sound.specs.Sound.{dummyOk}
 use Rattle.checking.proofs.records.dummy_ok.Statement.{statement}
 use Rattle.checking.proofs.records.dummy_ok.Tie as tie
 use Rattle.checking.proofs.records.dummy_ok.Reads as reads
 use Rattle.checking.proofs.records.dummy_ok.Lts as lts
-use Rattle.checking.proofs.records.dummy_word.Reads as dummy-word-reads
-use Rattle.tables.proofs.get.Reads as get-reads
+use Rattle.checking.proofs.records.dummy_word_ok.Reads as dummy-word-ok-reads
 
 abbrev Inv-loop : tie.InvT-loop
-Inv-loop rs f₀ f = ?
+Inv-loop rs f₀ f = every f (λ g. eqb (recordWord rs dummy g) (getD (recordRow aborted unfilled) g 0)) ≡ dummyOk rs
 
 abbrev μ-loop : tie.MeasureT-loop
-μ-loop rs f₀ f = ?
+μ-loop rs f₀ f = f
 
--- src/records.rt:47:5
+-- src/records.rt:54:5
 loop-holds : tie.Need-loop-holds Inv-loop μ-loop
-loop-holds c = ?
+unfolding dummyOk
+loop-holds c = refl
 
--- src/records.rt:48:9
+-- src/records.rt:55:9
 sub-f : tie.Need-sub-f Inv-loop μ-loop
-sub-f c = ?
+sub-f c = search needs
 
--- src/records.rt:49:28
-cast-get : tie.Need-cast-get Inv-loop μ-loop
-cast-get c = ?
+-- src/records.rt:56:13
+dummy-word-ok-requires : tie.Need-dummy-word-ok-requires Inv-loop μ-loop
+dummy-word-ok-requires c κs = search needs
 
--- src/records.rt:49:20
-get-requires : tie.Need-get-requires Inv-loop μ-loop
-get-requires c κs = ?
-
--- src/records.rt:49:43
-dummy-word-requires : tie.Need-dummy-word-requires Inv-loop μ-loop
-dummy-word-requires c κs = ?
-
--- src/records.rt:51:13
+-- src/records.rt:57:13
 returns : tie.Need-returns Inv-loop μ-loop
-returns c = ?
+returns c = stops _ (c .before .before .before .loop .f) (c .before .before .before .loop .inv) (search needs) (c .before .dummy-word-ok .ensures) (c .if1 .taken)
 
--- src/records.rt:47:5
+-- src/records.rt:54:5
 loop-less : tie.Need-loop-less Inv-loop μ-loop
-loop-less c = ?
+loop-less c = search needs
 
--- src/records.rt:47:5
+-- src/records.rt:54:5
 loop-again : tie.Need-loop-again Inv-loop μ-loop
-loop-again c = ?
+loop-again c = goes-on _ (c .before .before .before .loop .f) (c .before .before .before .loop .inv) (search needs) (c .before .dummy-word-ok .ensures) (c .if1 .left)
 
--- src/records.rt:43:1
+-- src/records.rt:50:1
 returns-2 : tie.Need-returns-2 Inv-loop μ-loop
-returns-2 c = ?
+returns-2 c = ends _ (c .before .loop .f) (c .before .loop .inv) (search needs)
 
 pub dummy-ok-spec : {M : Type 1} → statement M
 dummy-ok-spec =
@@ -55,9 +57,7 @@ dummy-ok-spec =
     μ-loop
     loop-holds
     sub-f
-    cast-get
-    get-requires
-    dummy-word-requires
+    dummy-word-ok-requires
     returns
     loop-less
     loop-again

@@ -1,3 +1,12 @@
+use mathlib.Core.Path.{_≡_, refl, _∙_}
+use Prim.Native.Nat.{ℕ, suc, _-_}
+use mathlib.Core.Bool.{Bool}
+use native.Mathlib.Omega.{arith}
+use borrow.Author.Needs.{needs}
+use Rattle.laws.specs.Tests.{every}
+use Rattle.laws.specs.Every.{stops, goes-on, ends}
+use Rattle.tables.specs.Records.{entryAt}
+use Rattle.sound.specs.Sound.{entryOk}
 use Rattle.checking.proofs.records.entries_ok.Statement.{statement}
 use Rattle.checking.proofs.records.entries_ok.Tie as tie
 use Rattle.checking.proofs.records.entries_ok.Reads as reads
@@ -6,42 +15,42 @@ use Rattle.checking.proofs.records.entry_ok.Reads as entry-ok-reads
 use Rattle.tables.proofs.entry_at.Reads as entry-at-reads
 
 abbrev Inv-loop : tie.InvT-loop
-Inv-loop t rs r count i₀ i = ?
+Inv-loop t rs r count i₀ i = every i (λ j. entryOk t (entryAt rs r (suc j))) ≡ every count (λ j. entryOk t (entryAt rs r (suc j)))
 
 abbrev μ-loop : tie.MeasureT-loop
-μ-loop t rs r count i₀ i = ?
+μ-loop t rs r count i₀ i = i
 
 -- src/records.rt:75:5
 loop-holds : tie.Need-loop-holds Inv-loop μ-loop
-loop-holds c = ?
+loop-holds c = refl
 
 -- src/records.rt:76:25
 entry-at-requires : tie.Need-entry-at-requires Inv-loop μ-loop
-entry-at-requires c κs = ?
+entry-at-requires c κs = search needs
 
 -- src/records.rt:76:13
 entry-ok-requires : tie.Need-entry-ok-requires Inv-loop μ-loop
-entry-ok-requires c κs = ?
+entry-ok-requires c κs = search needs
 
 -- src/records.rt:77:13
 returns : tie.Need-returns Inv-loop μ-loop
-returns c = ?
+returns c = let e : c .before .before .before .before .loop .i ≡ suc (c .before .before .before .before .loop .i - 1) = omega arith in stops _ (c .before .before .before .before .loop .i) (c .before .before .before .before .loop .inv) (search needs) (rw (c .before .before .entry-at .ensures, e) at (c .before .entry-ok .ensures)) (c .if1 .taken)
 
 -- src/records.rt:79:9
 sub-i : tie.Need-sub-i Inv-loop μ-loop
-sub-i c = ?
+sub-i c = search needs
 
 -- src/records.rt:75:5
 loop-less : tie.Need-loop-less Inv-loop μ-loop
-loop-less c = ?
+loop-less c = search needs
 
 -- src/records.rt:75:5
 loop-again : tie.Need-loop-again Inv-loop μ-loop
-loop-again c = ?
+loop-again c = let e : c .before .before .before .before .loop .i ≡ suc (c .before .before .before .before .loop .i - 1) = omega arith in goes-on _ (c .before .before .before .before .loop .i) (c .before .before .before .before .loop .inv) (search needs) (rw (c .before .before .entry-at .ensures, e) at (c .before .entry-ok .ensures)) (c .if1 .left)
 
 -- src/records.rt:71:1
 returns-2 : tie.Need-returns-2 Inv-loop μ-loop
-returns-2 c = ?
+returns-2 c = ends _ (c .before .loop .i) (c .before .loop .inv) (search needs)
 
 pub entries-ok-spec : {M : Type 1} → statement M
 entries-ok-spec =

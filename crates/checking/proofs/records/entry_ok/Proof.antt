@@ -1,3 +1,6 @@
+use mathlib.Core.Path.{sym}
+use Rattle.laws.specs.Every.{joined, all-joined}
+use Rattle.sound.specs.Sound.{entryOk}
 use borrow.Author.Needs.{needs}
 use Rattle.checking.proofs.records.entry_ok.Statement.{statement}
 use Rattle.checking.proofs.records.entry_ok.Tie as tie
@@ -16,7 +19,8 @@ word-ok-requires c κs = search needs
 
 -- src/records.rt:57:1
 returns : tie.Need-returns
-returns c = ?
+unfolding entryOk joined
+returns c = rw (c .before .word-ok .ensures, c .before .before .used-node .ensures) (sym (all-joined _ _))
 
 pub entry-ok-spec : {M : Type 1} → statement M
 entry-ok-spec = tie.close (tie.spec used-node-requires word-ok-requires returns)

@@ -1,3 +1,6 @@
+use mathlib.Core.Path.{sym}
+use Rattle.laws.specs.Every.{joined, all-joined}
+use Rattle.tables.specs.Fresh.{sizesOk}
 use borrow.Author.Needs.{needs}
 use Rattle.checking.proofs.sizes.sizes_ok.Statement.{statement}
 use Rattle.checking.proofs.sizes.sizes_ok.Tie as tie
@@ -19,7 +22,8 @@ between-requires-3 c κs = search needs
 
 -- src/sizes.rt:17:1
 returns : tie.Need-returns
-returns c = ?
+unfolding sizesOk joined
+returns c = rw (c .between3 .ensures, c .before .between2 .ensures, c .before .before .between .ensures) (sym (all-joined _ _))
 
 pub sizes-ok-spec : {M : Type 1} → statement M
 sizes-ok-spec = tie.close (tie.spec between-requires between-requires-2 between-requires-3 returns)
