@@ -73,11 +73,8 @@ pub fn attempt_home(o: Kind, q: Place) -> bool
         Place::Counter74 | Place::Search39 | Place::Word66 | Place::Grand66 => true,
         Place::Link(a, _) => link_home(o, a),
         Place::Leaf164 => is_insert(o),
-        Place::Sibling182
-        | Place::CopyLeft
-        | Place::CopyRight
-        | Place::Word189
-        | Place::Leaf190 => is_delete(o),
+        Place::Sibling182 | Place::CopyLeft | Place::CopyRight | Place::Word189 | Place::Leaf190 =>
+            is_delete(o),
         Place::Frozen97 | Place::State98 | Place::Freeze103 => is_update(o),
         Place::Help(_, b) => back_home(o, b),
         Place::Counter130

@@ -4,3 +4,36 @@ mod numbers; // numbers that refer to used ones
 mod nodes; // a node, all nodes, the Root
 mod records; // a record, all records, the dummy
 mod homes; // which places are whose
+mod workers; // a worker, all workers
+
+use crate::nodes::nodes_ok;
+use crate::nodes::root_ok;
+use crate::numbers::used_ok;
+use crate::records::dummy_ok;
+use crate::records::records_ok;
+use crate::sizes::lent_ok;
+use crate::sizes::sizes_ok;
+use crate::workers::workers_ok;
+use shapes::Board;
+ghost use mathlib.Core.Path.{_≡_};
+ghost use Rattle.tables.specs.World.{world};
+ghost use Rattle.sound.specs.Sound.{soundOf};
+
+// 01, 'Sound means'. The rows are looked at only if the totals are in range, so that there are few.
+pub fn is_sound(
+    board: Board,
+    nodes: &[u32],
+    records: &[u32],
+    pending: &[u32],
+    found: &[i32],
+) -> bool
+    ensures { λ r. ⌜ r ≡ soundOf (world board (now (nodes .entry)) (now (records .entry)) (now (pending .entry)) (now (found .entry))) ⌝ }
+{
+    let t = board.totals;
+    sizes_ok(t.n, t.m, t.p) & lent_ok(t, nodes, records, pending, found) & used_ok(t)
+        && root_ok(nodes)
+            & dummy_ok(records)
+            & nodes_ok(t, nodes)
+            & records_ok(t, nodes, records)
+            & workers_ok(board, records, pending)
+}

@@ -39,11 +39,7 @@ fn dummy_word_ok(rs: &[u32], f: u32) -> bool
     ensures { λ r. ⌜ r ≡ eqb (recordWord (now (rs .entry)) dummy f) (getD (recordRow aborted unfilled) f 0) ⌝ }
 {
     let word = get(rs, f as usize);
-    if f == STATE {
-        word == ABORT
-    } else {
-        word == 0
-    }
+    if f == STATE { word == ABORT } else { word == 0 }
 }
 
 // The dummy as fresh.
