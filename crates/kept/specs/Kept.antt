@@ -85,7 +85,7 @@ moved-sound rs v n (Scan a b old) q h = h
 -- ---- lists
 
 -- element j of a list with element i set: the new one there, else the old one
-at-set {ℓ} : {A : Type ℓ} (Q : A → Type 0) (l : List A) (i j : ℕ) (a d : A) → (j ≡ i → i < length l → Q a) → ((j ≡ i → length l ≤ i) → Q (getD l j d)) → Q (getD (set l i a) j d)
+pub at-set {ℓ} : {A : Type ℓ} (Q : A → Type 0) (l : List A) (i j : ℕ) (a d : A) → (j ≡ i → i < length l → Q a) → ((j ≡ i → length l ≤ i) → Q (getD l j d)) → Q (getD (set l i a) j d)
 at-set Q l i j a d new old = elim (ℕ-discrete j i) [
   | yes e ↦ elim (decLe (suc i) (length l)) [
     | yes m ↦ rw e (subst Q (sym (getD-set-same l i a d m)) (new e m))
@@ -110,7 +110,7 @@ spot-within : (t : Totals) (w i len : ℕ) → w < t .p → i < t .n → t .p * 
 unfolding spot
 spot-within t w i len a b c = let rows : suc w * t .n ≤ t .p * t .n = mul-le-mul-right (t .n) a in omega (arith, rows)
 
-spot-other : (t : Totals) (w u i j : ℕ) → i < t .n → j < t .n → u ≢ w → spot t u j ≢ spot t w i
+pub spot-other : (t : Totals) (w u i j : ℕ) → i < t .n → j < t .n → u ≢ w → spot t u j ≢ spot t w i
 unfolding spot
 spot-other t w u i j a b ne = place-other (t .n) w u i j a b ne
 
@@ -220,7 +220,7 @@ module _ (s : World) (h : Sound s) (w : ℕ) (in-p : w < totalsOf s .p) (o : Ope
 -- ---- the calls
 
 module _ (s : World) (h : Sound s) where
-  top-used : (w : ℕ) → w < totalsOf s .p → 0 < workerAt s w .pending → pendingAt s w (workerAt s w .pending - 1) .0 < totalsOf s .nodes
+  pub top-used : (w : ℕ) → w < totalsOf s .p → 0 < workerAt s w .pending → pendingAt s w (workerAt s w .pending - 1) .0 < totalsOf s .nodes
   top-used w l z = h .workers w l .pending-used (workerAt s w .pending - 1) (omega arith)
 
   settle-sound : (w : ℕ) (o : Operation) → w < totalsOf s .p → (e : Decision) → Good (tablesOf s) (homeOf o) (listedBy o) (workerAt s w .pending) (workerAt s w .found) e → Sound (settle s w (workerAt s w) o e .world)

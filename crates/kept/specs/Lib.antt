@@ -5,3 +5,7 @@ pub mod Helping
 pub mod Attempts
 pub mod Scanning
 pub mod Kept
+pub mod Fresh
+pub mod Refused
+pub mod Touched
+pub mod Frame

@@ -1,4 +1,5 @@
 pub mod Choice
+pub mod Changed
 pub mod Tests
 pub mod Every
 pub mod Arms

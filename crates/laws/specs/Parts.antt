@@ -17,3 +17,12 @@ below-head bound x l h = h 0 (omega arith)
 pub below-tail : (bound x : ℕ) (l : List ℕ) → Below bound (x ∷ l) → Below bound l
 unfolding Below
 below-tail bound x l h i k = h (suc i) (omega arith)
+
+pub below-none : (bound : ℕ) → Below bound []
+unfolding Below
+below-none bound i h = absurd (omega arith)
+
+pub below-cons : (bound x : ℕ) (l : List ℕ) → x < bound → Below bound l → Below bound (x ∷ l)
+unfolding Below
+below-cons bound x l here rest zero k = here
+below-cons bound x l here rest (suc i) k = rest i (omega arith)

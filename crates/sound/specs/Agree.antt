@@ -225,7 +225,7 @@ says-worker s w = says-as
 
 -- ---- the whole
 
-says-lent : (n m p : ℕ) (s : World) → Says (lentOk n m p s) (HasRows nodeWidth (s .nodes) n × HasRows recordWidth (s .records) m × (p * n ≤ length (s .pending)) × (p * n ≤ length (s .found)))
+pub says-lent : (n m p : ℕ) (s : World) → Says (lentOk n m p s) (HasRows nodeWidth (s .nodes) n × HasRows recordWidth (s .records) m × (p * n ≤ length (s .pending)) × (p * n ≤ length (s .found)))
 unfolding lentOk HasRows
 says-lent n m p s = says-as (says-more _ (says-le _ _) (says-more _ (says-le _ _) (says-more _ (says-le _ _) (says-more _ (says-le _ _) says-none))))
     (λ h. (h .0, h .1 .0, h .1 .1 .0, h .1 .1 .1 .0))

@@ -1,3 +1,5 @@
 pub mod Places
 pub mod Walks
 pub mod Signs
+pub mod Clears
+pub mod Asked

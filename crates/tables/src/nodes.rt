@@ -1,5 +1,6 @@
 // A node's fields, read and written by name.
-use crate::sizes::NODE_WIDTH;
+use crate::numbers::INTERNAL;
+use crate::numbers::NODE_WIDTH;
 use crate::words::put_row;
 use crate::words::put_word;
 use crate::words::word;
@@ -13,6 +14,7 @@ ghost use mathlib.Core.Path.{_≡_};
 ghost use Rattle.tables.specs.Names.{value, sameNode, sameRecord, sameUpdate};
 ghost use Rattle.tables.specs.Nodes.{kindAt, isInternal, rankAt, keyAt, phaseAt, prevAt, childAt, updateAt, setChild, setUpdate, newNode};
 
+// The fields of a row; the update word has two.
 const KIND: u32 = 0;
 
 const CLASS: u32 = 1;
@@ -29,7 +31,7 @@ const LEFT: u32 = 6;
 
 const RIGHT: u32 = 7;
 
-const MARK: u32 = 8;
+const TYPE: u32 = 8;
 
 const INFO: u32 = 9;
 
@@ -42,7 +44,7 @@ pub fn kind_at(ns: &[u32], x: NodeNo) -> u32
 pub fn is_internal(ns: &[u32], x: NodeNo) -> bool
     ensures { λ r. ⌜ r ≡ isInternal (now (ns .entry)) x ⌝ }
 {
-    kind_at(ns, x) == 1
+    kind_at(ns, x) == INTERNAL
 }
 
 pub fn rank_at(ns: &[u32], x: NodeNo) -> Rank
@@ -95,7 +97,7 @@ pub fn child_at(ns: &[u32], x: NodeNo, left: bool) -> NodeNo
 pub fn update_at(ns: &[u32], x: NodeNo) -> Update
     ensures { λ r. ⌜ r ≡ updateAt (now (ns .entry)) x ⌝ }
 {
-    let mark = word(ns, NODE_WIDTH, x.0, MARK);
+    let mark = word(ns, NODE_WIDTH, x.0, TYPE);
     let info = word(ns, NODE_WIDTH, x.0, INFO);
     Update {
         mark,
@@ -119,7 +121,7 @@ pub fn set_update(ns: &mut [u32], x: NodeNo, u: Update)
     ensures { λ r. ⌜ now (ns .exit) ≡ setUpdate (now (ns .entry)) x u ⌝ }
 {
     let info = u.info;
-    put_word(ns, NODE_WIDTH, x.0, MARK, u.mark);
+    put_word(ns, NODE_WIDTH, x.0, TYPE, u.mark);
     put_word(ns, NODE_WIDTH, x.0, INFO, info.0);
 }
 

@@ -1,5 +1,7 @@
 // A record's fields, read and written by name.
-use crate::sizes::RECORD_WIDTH;
+use crate::numbers::COMMIT;
+use crate::numbers::FLAG;
+use crate::numbers::RECORD_WIDTH;
 use crate::words::get;
 use crate::words::put_row;
 use crate::words::put_word;
@@ -7,12 +9,14 @@ use crate::words::word;
 use shapes::Entry;
 use shapes::Filling;
 use shapes::NodeNo;
+use shapes::Phase;
 use shapes::RecordNo;
 use shapes::Update;
 ghost use mathlib.Core.Path.{_≡_};
 ghost use Prim.Native.Nat.{_+_, _*_, _≤_};
-ghost use Rattle.tables.specs.Records.{recordWord, countAt, stateAt, parAt, oldChildAt, newChildAt, seqAt, entryAt, setState, newRecord, helpable, fillable, inProgress};
+ghost use Rattle.tables.specs.Records.{recordWord, countAt, stateAt, parAt, oldChildAt, newChildAt, seqAt, entryAt, setState, newRecord, unfilled, helpable, fillable, inProgress};
 
+// The fields of a row.
 const COUNT: u32 = 0;
 
 const STATE: u32 = 1;
@@ -24,6 +28,7 @@ const OLD_CHILD: u32 = 3;
 const NEW_CHILD: u32 = 4;
 
 const SEQ: u32 = 5;
+
 // Entry i, from 1, stands in four words from 4i + 2.
 const ENTRY_WIDTH: usize = 4;
 
@@ -34,8 +39,6 @@ const ENTRY_TYPE: usize = 3;
 const ENTRY_INFO: usize = 4;
 
 const ENTRY_MARK: usize = 5;
-
-const COMMIT: u32 = 2;
 
 pub fn count_at(rs: &[u32], r: RecordNo) -> u32
     ensures { λ n. ⌜ n ≡ countAt (now (rs .entry)) r ⌝ }
@@ -141,6 +144,32 @@ pub fn new_record(rs: &mut [u32], r: RecordNo, state: u32, filling: Filling)
         d.mark,
     ];
     put_row(rs, RECORD_WIDTH, r.0, &row);
+}
+
+// 01: a record taken is unfilled, with the dummy's contents.
+pub fn unfilled() -> Filling
+    ensures { λ f. ⌜ f ≡ unfilled ⌝ }
+{
+    let old = Update {
+        mark: FLAG,
+        info: RecordNo(0),
+    };
+    let none = Entry {
+        node: NodeNo(0),
+        old,
+        mark: 0,
+    };
+    Filling {
+        count: 0,
+        par: NodeNo(0),
+        old: NodeNo(0),
+        new: NodeNo(0),
+        seq: Phase(0),
+        first: none,
+        second: none,
+        third: none,
+        fourth: none,
+    }
 }
 
 // ---- what may be done with a record

@@ -1,0 +1,99 @@
+// When the leaf is validated: line 66, then lines 78 and 79, 159, 181.
+use crate::taking::take_three;
+use shapes::Answer;
+use shapes::Decision;
+use shapes::Key;
+use shapes::Kind;
+use shapes::Locals;
+use shapes::MaybeNode;
+use shapes::NodeNo;
+use shapes::Place;
+use shapes::Totals;
+ghost use mathlib.Core.Path.{_≡_};
+ghost use Rattle.steps.specs.Attempt.{reaches182, validated, word66, grand66};
+
+pub const ROOT: NodeNo = NodeNo(0);
+
+// With gp absent, or p the Root so that gp has no word, line 182 is crooked.
+fn reaches182(v: Locals, gp: MaybeNode) -> Decision
+    ensures { λ r. ⌜ r ≡ reaches182 v gp ⌝ }
+{
+    let p = v.p;
+    let MaybeNode::At(_) = gp else {
+        return Decision::Crooked;
+    };
+    if tables::same_node(p, ROOT) {
+        Decision::Crooked
+    } else {
+        hand::go_to(v, Place::Sibling182)
+    }
+}
+
+fn validated(totals: Totals, nodes: &[u32], kind: Kind, k: Key, v: Locals) -> Decision
+    ensures { λ r. ⌜ r ≡ validated totals (now (nodes .entry)) kind k v ⌝ }
+{
+    let l = v.l;
+    let gp = v.gp;
+    let key = tables::key_at(nodes, l);
+    let present = key == k.0 as u64;
+    match kind {
+        Kind::Insert => {
+            if present {
+                hand::say(Answer::No)
+            } else {
+                take_three(totals, k, v)
+            }
+        }
+        Kind::Delete => {
+            if present {
+                reaches182(v, gp)
+            } else {
+                hand::say(Answer::No)
+            }
+        }
+        Kind::Find => {
+            if present {
+                hand::say(Answer::Yes)
+            } else {
+                hand::say(Answer::No)
+            }
+        }
+    }
+}
+
+// p's word, then gp's if that agreed and p is not the Root.
+pub fn word66(totals: Totals, nodes: &[u32], kind: Kind, k: Key, v: Locals) -> Decision
+    ensures { λ r. ⌜ r ≡ word66 totals (now (nodes .entry)) kind k v ⌝ }
+{
+    let at = v.p;
+    let pup = v.pup;
+    let MaybeNode::At(p) = tables::as_parent(nodes, MaybeNode::At(at)) else {
+        return Decision::Crooked;
+    };
+    let word = tables::update_at(nodes, p);
+    if tables::same_update(word, pup) {
+        if tables::same_node(p, ROOT) {
+            validated(totals, nodes, kind, k, v)
+        } else {
+            hand::go_to(v, Place::Grand66)
+        }
+    } else {
+        hand::retry()
+    }
+}
+
+pub fn grand66(totals: Totals, nodes: &[u32], kind: Kind, k: Key, v: Locals) -> Decision
+    ensures { λ r. ⌜ r ≡ grand66 totals (now (nodes .entry)) kind k v ⌝ }
+{
+    let at = v.gp;
+    let gpup = v.gpup;
+    let MaybeNode::At(gp) = tables::as_parent(nodes, at) else {
+        return Decision::Crooked;
+    };
+    let word = tables::update_at(nodes, gp);
+    if tables::same_update(word, gpup) {
+        validated(totals, nodes, kind, k, v)
+    } else {
+        hand::retry()
+    }
+}

@@ -1,0 +1,10 @@
+pub mod Ghost
+pub mod Invariant
+pub mod Freeze
+pub mod SetState
+pub mod Link
+pub mod Fill
+pub mod Frame
+pub mod Rely
+pub mod RelyMore
+pub mod Helper

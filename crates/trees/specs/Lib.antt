@@ -1,0 +1,16 @@
+pub mod Members
+pub mod Count
+pub mod Shape
+pub mod Grown
+pub mod Version
+pub mod Frame
+pub mod Change
+pub mod Updates
+pub mod Graft
+pub mod Been
+pub mod Scanning
+pub mod Moves
+pub mod ScanChange
+pub mod ScanFrame
+pub mod Bound
+pub mod Examples
