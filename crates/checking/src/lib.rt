@@ -1,5 +1,4 @@
 // The code that tells sound tables from spoiled ones.
-mod sizes; // the sizes, and tables lent long enough
 mod numbers; // numbers that refer to used ones
 mod nodes; // a node, all nodes, the Root
 mod records; // a record, all records, the dummy
@@ -11,10 +10,10 @@ use crate::nodes::root_ok;
 use crate::numbers::used_ok;
 use crate::records::dummy_ok;
 use crate::records::records_ok;
-use crate::sizes::lent_ok;
-use crate::sizes::sizes_ok;
 use crate::workers::workers_ok;
 use shapes::Board;
+use tables::lent_ok;
+use tables::sizes_ok;
 ghost use mathlib.Core.Path.{_≡_};
 ghost use Rattle.tables.specs.World.{world};
 ghost use Rattle.sound.specs.Sound.{soundOf};
@@ -30,7 +29,7 @@ pub fn is_sound(
     ensures { λ r. ⌜ r ≡ soundOf (world board (now (nodes .entry)) (now (records .entry)) (now (pending .entry)) (now (found .entry))) ⌝ }
 {
     let t = board.totals;
-    sizes_ok(t.n, t.m, t.p) & lent_ok(t, nodes, records, pending, found) & used_ok(t)
+    sizes_ok(t.n, t.m, t.p) & lent_ok(t.n, t.m, t.p, nodes, records, pending, found) & used_ok(t)
         && root_ok(nodes)
             & dummy_ok(records)
             & nodes_ok(t, nodes)

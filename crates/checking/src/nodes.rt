@@ -6,6 +6,7 @@ use shapes::MaybeNode;
 use shapes::NodeNo;
 use shapes::Rank;
 use shapes::Totals;
+use tables::INTERNAL;
 use tables::child_at;
 use tables::is_internal;
 use tables::kind_at;
@@ -17,8 +18,6 @@ ghost use mathlib.Core.Path.{_≡_};
 ghost use Rattle.laws.specs.Tests.{every};
 ghost use Rattle.sound.specs.Sound.{isAbsent, rootOk, rankOk, prevOk, childrenOk, nodeOk};
 
-// Kind 0 is a leaf.
-const INTERNAL: u32 = 1;
 // Class 0 is a finite key, 1 is ∞1.
 const INFINITY_2: u32 = 2;
 

@@ -1,11 +1,12 @@
 // Numbers that refer to used ones, phases no later than Counter.
-use crate::sizes::between;
 use shapes::MaybeNode;
 use shapes::NodeNo;
 use shapes::RecordNo;
 use shapes::Totals;
 use shapes::Update;
 use tables::LAST_PHASE;
+use tables::MARK;
+use tables::between;
 ghost use mathlib.Core.Path.{_≡_};
 ghost use Rattle.sound.specs.Sound.{usedNode, usedMaybe, usedRecord, wordOk, phaseOk, usedOk};
 
@@ -13,8 +14,6 @@ ghost use Rattle.sound.specs.Sound.{usedNode, usedMaybe, usedRecord, wordOk, ph
 const FRESH_NODES: u32 = 3;
 
 const FRESH_RECORDS: u32 = 1;
-// The type of an update word: 0 is FLAG, 1 is MARK.
-const MARK: u32 = 1;
 
 pub fn used_node(t: Totals, x: NodeNo) -> bool
     ensures { λ r. ⌜ r ≡ usedNode t x ⌝ }

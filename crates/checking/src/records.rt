@@ -6,6 +6,7 @@ use shapes::Entry;
 use shapes::NodeNo;
 use shapes::RecordNo;
 use shapes::Totals;
+use tables::ABORT;
 use tables::RECORD_WIDTH;
 use tables::count_at;
 use tables::entry_at;
@@ -26,10 +27,8 @@ ghost use Rattle.tables.specs.Records.{recordWord, recordRow, aborted, unfilled
 ghost use Rattle.tables.specs.World.{tables};
 ghost use Rattle.sound.specs.Sound.{dummyOk, entryOk, countOk, recordOk};
 
-// The second word of a record is its state, of which ABORT is the last.
+// The second word of a record is its state.
 const STATE: u32 = 1;
-
-const ABORT: u32 = 3;
 
 // Whether an entry is to be marked: 0 or 1.
 const TO_MARK: u32 = 1;

@@ -8,24 +8,21 @@ use crate::numbers::used_maybe;
 use crate::numbers::used_node;
 use crate::numbers::used_record;
 use crate::numbers::word_ok;
-use crate::sizes::between;
 use shapes::Board;
 use shapes::Condition;
 use shapes::HelpStep;
 use shapes::Kind;
 use shapes::Locals;
-use shapes::MaybeNode;
 use shapes::NodeNo;
 use shapes::Operation;
-use shapes::Phase;
 use shapes::Place;
-use shapes::RecordNo;
 use shapes::Totals;
-use shapes::Update;
 use shapes::Worker;
 use tables::MOST_WORKERS;
+use tables::between;
 use tables::count_at;
 use tables::get;
+use tables::idle;
 ghost use mathlib.Core.Path.{_≡_};
 ghost use mathlib.Core.Bool.{true, _&&_};
 ghost use mathlib.Core.List.{List};
@@ -143,38 +140,14 @@ fn pending_ok(t: Totals, pending: &[u32], w: u32, count: u32) -> bool
 }
 
 // Worker w; past the last there is an idle one.
-fn worker_at(board: Board, w: u32) -> Worker
-    ensures { λ r. ⌜ r ≡ getD (board .workers) w idle ⌝ }
+fn worker_at(workers: [Worker; 8], w: u32) -> Worker
+    ensures { λ r. ⌜ r ≡ getD workers w idle ⌝ }
 {
     let at = w as usize;
     if w < MOST_WORKERS {
-        return board.workers[at];
-    }
-    let none = NodeNo(0);
-    let word = Update {
-        mark: 0,
-        info: RecordNo(0),
-    };
-    let hand = Locals {
-        seq: Phase(0),
-        gp: MaybeNode::Absent,
-        p: none,
-        l: none,
-        gpup: word,
-        pup: word,
-        lup: word,
-        sup: word,
-        up: word,
-        sibling: none,
-        made: none,
-        info: RecordNo(0),
-        i: 0,
-    };
-    Worker {
-        condition: Condition::Idle,
-        hand,
-        pending: 0,
-        found: 0,
+        workers[at]
+    } else {
+        idle()
     }
 }
 
@@ -183,14 +156,16 @@ fn lists_ok(board: Board, pending: &[u32], w: u32) -> bool
     ensures { λ r. ⌜ ((ns rs : List ℕ) (fs : List ℤ) → r ≡ listsOk (world board ns rs (now (pending .entry)) fs) w) ⌝ }
 {
     let t = board.totals;
-    let k = worker_at(board, w);
+    let workers = board.workers;
+    let k = worker_at(workers, w);
     (k.pending <= t.n) & (k.found <= t.n) && pending_ok(t, pending, w, k.pending)
 }
 
 fn worker_ok(board: Board, records: &[u32], pending: &[u32], w: u32) -> bool
     ensures { λ r. ⌜ ((ns : List ℕ) (fs : List ℤ) → r ≡ workerOk (world board ns (now (records .entry)) (now (pending .entry)) fs) w) ⌝ }
 {
-    let k = worker_at(board, w);
+    let workers = board.workers;
+    let k = worker_at(workers, w);
     let hand = k.hand;
     let condition = k.condition;
     lists_ok(board, pending, w)

@@ -104,11 +104,21 @@ module _ (X : View) (G : Ghost) (H : Holds X G) (r : ℕ) (f : Filling) (F : Fil
     most = rw (change-same (X .state) r undecided) (omega arith);
     commits = λ e. let z : undecided ≡ committed = sym (change-same (X .state) r undecided) ∙ e in absurd (omega arith);
     aborts = λ e. let z : undecided ≡ aborted = sym (change-same (X .state) r undecided) ∙ e in absurd (omega arith);
-    two = F .two; most-listed = F .most-listed; first = F .first; second = F .second;
+    two = F .two;
+    most-listed = F .most-listed;
+    first = F .first;
+    second = F .second;
     linked = λ j i. F .linked j (i .low) (i .high);
     apart = λ a b i k. F .apart a b (i .low) (i .high) (k .low) (k .high);
-    inner = F .inner; old-phase = F .old-phase; new-used = F .new-used; made = F .made; prev = F .prev; new-phase = F .new-phase;
-    fresh = λ _. F .fresh; kind = F .kind }
+    inner = F .inner;
+    old-phase = F .old-phase;
+    new-used = F .new-used;
+    made = F .made;
+    prev = F .prev;
+    new-phase = F .new-phase;
+    fresh = λ _. F .fresh;
+    kind = F .kind;
+  }
     where
       none : (G .stamp r ≡ 0) × (G .tried r ≡ false) × ((v : ℕ) → G .froze r v ≡ false)
       none = H .blank r empty-not
@@ -148,21 +158,37 @@ module _ (X : View) (G : Ghost) (H : Holds X G) (r : ℕ) (f : Filling) (F : Fil
       most = rw (state-same q ne) (was .most);
       commits = λ e. was .commits (sym (state-same q ne) ∙ e);
       aborts = λ e t. let h = was .aborts (sym (state-same q ne) ∙ e) t in record { at = h .at; list = h .list; before = h .before; not = h .not; gone = passed′ (h .at) (h .list) (h .gone) };
-      two = was .two; most-listed = was .most-listed; first = was .first; second = was .second; linked = was .linked; apart = was .apart; inner = was .inner; old-phase = was .old-phase; new-used = was .new-used; made = was .made; prev = was .prev; new-phase = was .new-phase; fresh = was .fresh;
-      kind = other-kind (was .kind) }
+      two = was .two;
+      most-listed = was .most-listed;
+      first = was .first;
+      second = was .second;
+      linked = was .linked;
+      apart = was .apart;
+      inner = was .inner;
+      old-phase = was .old-phase;
+      new-used = was .new-used;
+      made = was .made;
+      prev = was .prev;
+      new-phase = was .new-phase;
+      fresh = was .fresh;
+      kind = other-kind (was .kind);
+    }
 
   pub fill-holds : Holds X′ G′
   fill-holds = record {
     records = λ q g. by-equal q r
-      (λ e. rw e (subst (RecordHolds X′ G′ r) (sym mine) own))
-      (λ e. subst (RecordHolds X′ G′ q) (sym (same q e)) (other q (filled-was q e g)));
+        (λ e. rw e (subst (RecordHolds X′ G′ r) (sym mine) own))
+        (λ e. subst (RecordHolds X′ G′ q) (sym (same q e)) (other q (filled-was q e g)));
     unfilled = λ q l e. by-equal q r
-      (λ d. let z : f .count ≡ 0 = ap (λ (h : Filling). h .count) (sym mine) ∙ (rw d at e) in absurd (omega (arith, F .two)))
-      (λ d. state-same q d ∙ H .unfilled q l (ap (λ (h : Filling). h .count) (sym (same q d)) ∙ e));
+        (λ d. let z : f .count ≡ 0 = ap (λ (h : Filling). h .count) (sym mine) ∙ (rw d at e) in absurd (omega (arith, F .two)))
+        (λ d. state-same q d ∙ H .unfilled q l (ap (λ (h : Filling). h .count) (sym (same q d)) ∙ e));
     blank = λ q n.
-      let d : q ≢ r = λ e. n (rw e (record { used = F .used; some = rw mine (omega (arith, F .two)) })) in
-      let was = H .blank q (λ g. n (filled′ q g)) in (stamp-same q d ∙ was .0, was .1, was .2);
+        let d : q ≢ r = λ e. n (rw e (record { used = F .used; some = rw mine (omega (arith, F .two)) })) in
+        let was = H .blank q (λ g. n (filled′ q g)) in (stamp-same q d ∙ was .0, was .1, was .2);
     dummy = (H .dummy .0, ap (λ (h : Filling). h .count) (same 0 (λ e. F .other (sym e))) ∙ H .dummy .1);
     stamps = λ q. change-case (λ s. s < suc (G .next)) (G .stamp) r (G .next) q (λ e. omega arith) (λ e. omega (arith, H .stamps q));
     words = λ v l. let was = H .words v l in (known′ (X .update v) (was .0), was .1);
-    used = H .used; kids = H .kids; prevs = H .prevs }
+    used = H .used;
+    kids = H .kids;
+    prevs = H .prevs;
+  }

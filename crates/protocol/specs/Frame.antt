@@ -42,7 +42,7 @@ module _ (X X′ : View) (G G′ : Ghost) (P : ℕ → Type 0) (H : Holds X G) (
 
   filled-was : (r : ℕ) → Filled X′ r → Filled X r
   filled-was r f = elim (decLe (suc r) (X .records)) [
-    yes l ↦ record { used = l; some = rw (A .filling r l) at (f .some) }
+    | yes l ↦ record { used = l; some = rw (A .filling r l) at (f .some) }
     | no l ↦ let none : X′ .filling r .count ≡ 0 = A .new-records r (omega arith) (f .used) .0 in absurd (omega (arith, f .some))
   ]
 
@@ -99,23 +99,32 @@ module _ (X X′ : View) (G G′ : Ghost) (P : ℕ → Type 0) (H : Holds X G) (
         let kl : P (p .left) = A .of-record q _ g (p .made .0) (p .used .0) in
         let kr : P (p .right) = A .of-record q _ g (p .made .1) (p .used .1) in
         inl (record {
-          left = p .left; right = p .right; inner = rw (A .fixed _ new-kept) (p .inner);
+          left = p .left;
+          right = p .right;
+          inner = rw (A .fixed _ new-kept) (p .inner);
           kids = λ h. let k = p .kids (rw (A .linked) at h) in (A .kid _ new-kept true ∙ k .0, A .kid _ new-kept false ∙ k .1);
-          leaf-left = rw (A .fixed _ kl) (p .leaf-left); leaf-right = rw (A .fixed _ kr) (p .leaf-right); phase-left = rw (A .fixed _ kl) (p .phase-left); phase-right = rw (A .fixed _ kr) (p .phase-right);
+          leaf-left = rw (A .fixed _ kl) (p .leaf-left);
+          leaf-right = rw (A .fixed _ kr) (p .leaf-right);
+          phase-left = rw (A .fixed _ kl) (p .phase-left);
+          phase-right = rw (A .fixed _ kr) (p .phase-right);
           no-prev = (rw (A .fixed _ kl) (p .no-prev .0), rw (A .fixed _ kr) (p .no-prev .1));
           used = (omega (arith, p .used .0, A .nodes), omega (arith, p .used .1, A .nodes));
           made = (A .maker _ kl ∙ p .made .0, A .maker _ kr ∙ p .made .1);
           fresh = λ h. rw (A .linked) (p .fresh (rw (A .linked) at h));
-          differ = p .differ })
+          differ = p .differ;
+        })
     kind′ (inr c) =
         let four : InList (X .filling q) 4 = record { low = omega arith; high = omega (arith, c .four) } in
         let two : InList (X .filling q) 2 = record { low = omega arith; high = omega (arith, c .four) } in
         inr (record {
-          four = c .four; side = c .side; inner = rw (A .fixed _ old-kept) (c .inner);
+          four = c .four;
+          side = c .side;
+          inner = rw (A .fixed _ old-kept) (c .inner);
           sibling = λ h. A .kid _ old-kept (c .side) ∙ c .sibling (held-was 2 two h);
           copy = λ e h s. A .kid _ new-kept s ∙ c .copy (rw (A .fixed _ (node-linked 4 four)) at e) (held-was 4 four h) s ∙ sym (A .kid _ (node-linked 4 four) s);
           kind = rw (A .fixed _ new-kept, A .fixed _ (node-linked 4 four)) (c .kind);
-          phase = rw (A .fixed _ (node-linked 4 four)) (c .phase) })
+          phase = rw (A .fixed _ (node-linked 4 four)) (c .phase);
+        })
 
     pub lost′ : Lost X G q (X .filling q) → Lost X′ G′ q (X .filling q)
     lost′ h = record { at = h .at; list = h .list; before = λ i a b. rw (A .froze) (h .before i a b); not = rw (A .froze) (h .not); gone = rw (A .stamp, word-same (h .at) (h .list)) (h .gone) }
@@ -133,7 +142,10 @@ module _ (X X′ : View) (G G′ : Ghost) (P : ℕ → Type 0) (H : Holds X G) (
       most = rw state-same (was .most);
       commits = λ e. let c = was .commits (sym state-same ∙ e) in (rw (A .tried) (c .0), (λ i l. rw (A .froze) (c .1 i l)), λ d. c .2 (sym link-same ∙ d));
       aborts = λ e t. lost′ (was .aborts (sym state-same ∙ e) (rw (A .tried) at t));
-      two = was .two; most-listed = was .most-listed; first = was .first; second = was .second;
+      two = was .two;
+      most-listed = was .most-listed;
+      first = was .first;
+      second = was .second;
       linked = λ j i. rw (A .linked) (was .linked j i);
       apart = was .apart;
       inner = rw (A .fixed _ par-kept) (was .inner);
@@ -143,22 +155,24 @@ module _ (X X′ : View) (G G′ : Ghost) (P : ℕ → Type 0) (H : Holds X G) (
       prev = rw (A .fixed _ new-kept) (was .prev);
       new-phase = rw (A .fixed _ new-kept) (was .new-phase);
       fresh = λ h. rw (A .linked) (was .fresh (sym link-same ∙ h));
-      kind = kind′ (was .kind) }
+      kind = kind′ (was .kind);
+    }
 
   pub frame-holds : Holds X′ G′
   frame-holds = record {
     records = λ q g. let old = filled-was q g in subst (RecordHolds X′ G′ q) (sym (A .filling q (old .used))) (record′ q old);
     unfilled = λ q l e. elim (decLe (suc q) (X .records)) [
-      yes k ↦ A .state q k ∙ H .unfilled q k (ap (λ (h : Filling). h .count) (sym (A .filling q k)) ∙ e)
+      | yes k ↦ A .state q k ∙ H .unfilled q k (ap (λ (h : Filling). h .count) (sym (A .filling q k)) ∙ e)
       | no k ↦ A .new-records q (omega arith) l .1
     ];
     blank = λ q n. rw (A .stamp, A .tried, A .froze) (H .blank q (λ g. n (filled′ q g)));
     dummy = (omega (arith, H .dummy .0, A .records), ap (λ (h : Filling). h .count) (A .filling 0 (H .dummy .0)) ∙ H .dummy .1);
     stamps = λ q. rw (A .stamp, A .next) (H .stamps q);
     words = λ v l. elim (decLe (suc v) (X .nodes)) [
-      yes k ↦ let was = H .words v k in rw (A .update v k, A .froze) (known′ (X .update v) (was .0), was .1)
+      | yes k ↦ let was = H .words v k in rw (A .update v k, A .froze) (known′ (X .update v) (was .0), was .1)
       | no k ↦ let none = A .new-words v (omega arith) l in (inl none, λ ne. absurd (ne none))
     ];
     used = λ v h. omega (arith, H .used v (rw (A .linked) at h), A .nodes);
     kids = λ v h e s. let z = rw (A .linked) at h in let p = A .of-linked v z in rw (A .linked, A .kid v p s) (H .kids v z (rw (A .fixed v p) at e) s);
-    prevs = λ v x h e. let z = rw (A .linked) at h in rw (A .linked) (H .prevs v x z (rw (A .fixed v (A .of-linked v z)) at e)) }
+    prevs = λ v x h e. let z = rw (A .linked) at h in rw (A .linked) (H .prevs v x z (rw (A .fixed v (A .of-linked v z)) at e));
+  }

@@ -21,8 +21,8 @@ froze-more G r x q v h = change-case (λ f. f v ≡ true) (G .froze) r _ q (λ e
 
 froze-was : (G : Ghost) (r x q v : ℕ) → gFroze G r x .froze q v ≡ true → (G .froze q v ≡ true) ⊎ ((q ≡ r) × (v ≡ x))
 froze-was G r x q v = change-case (λ f. f v ≡ true → (G .froze q v ≡ true) ⊎ ((q ≡ r) × (v ≡ x))) (G .froze) r _ q
-  (λ e. change-case (λ b. b ≡ true → (G .froze q v ≡ true) ⊎ ((q ≡ r) × (v ≡ x))) (G .froze r) x true v (λ d h. inr (e, d)) (λ d h. inl (rw e h)))
-  (λ e h. inl h)
+    (λ e. change-case (λ b. b ≡ true → (G .froze q v ≡ true) ⊎ ((q ≡ r) × (v ≡ x))) (G .froze r) x true v (λ d h. inr (e, d)) (λ d h. inl (rw e h)))
+    (λ e h. inl h)
 
 module _ (X : View) (G : Ghost) (H : Holds X G) (r j m : ℕ) (f : Filled X r) (l : InList (X .filling r) j) (live : Live X r) (hit : X .update (nodeOf (X .filling r) j) ≡ oldOf (X .filling r) j) (order : (j ≡ 1) ⊎ (G .froze r (nodeOf (X .filling r) 1) ≡ true)) where
   abbrev x : ℕ
@@ -94,24 +94,24 @@ module _ (X : View) (G : Ghost) (H : Holds X G) (r j m : ℕ) (f : Filled X r) (
         old-stamp = λ k i. was .old-stamp k i;
         frozen = λ v h. elim (froze-was G r x q v h) [ inl p ↦ was .frozen v p | inr p ↦ rw (p .1) (H .used x (R .linked j l)) ];
         in-order = λ v h. elim (froze-was G r x q v h) [
-          inl p ↦ froze-more G r x q _ (was .in-order v p)
+          | inl p ↦ froze-more G r x q _ (was .in-order v p)
           | inr p ↦ elim order [
-            inl e ↦ rw (p .0, e, change-same (G .froze) r (change (G .froze r) (nodeOf (X .filling r) 1) true)) (change-same (G .froze r) (nodeOf (X .filling r) 1) true)
+            | inl e ↦ rw (p .0, e, change-same (G .froze) r (change (G .froze r) (nodeOf (X .filling r) 1) true)) (change-same (G .froze r) (nodeOf (X .filling r) 1) true)
             | inr e ↦ froze-more G r x q _ (rw (p .0) e)
           ]
         ];
         later = λ v h. elim (froze-was G r x q v h) [
-          inl p ↦ omega (arith, was .later v p, stamp-up v)
+          | inl p ↦ omega (arith, was .later v p, stamp-up v)
           | inr p ↦ rw (p .0, p .1, change-same (X .update) x u) (omega arith)
         ];
         holds = λ v h live′. elim (froze-was G r x q v h) [
-          inl p ↦ change-case (λ w. w .info .0 ≡ q) (X .update) x u v
-            (λ e.
+          | inl p ↦ change-case (λ w. w .info .0 ≡ q) (X .update) x u v
+              (λ e.
               let same : X .update x .info .0 ≡ q = rw (← e) (was .holds v p live′) in
               let final : committed ≤ X .state (X .update x .info .0) = rw hit (R .old-final j l) in
               let z : committed ≤ X .state q = rw same at final in
               absurd (omega arith))
-            (λ e. was .holds v p live′)
+              (λ e. was .holds v p live′)
           | inr p ↦ rw (p .1, change-same (X .update) x u) (sym (p .0))
         ];
         tried-state = was .tried-state;
@@ -131,7 +131,8 @@ module _ (X : View) (G : Ghost) (H : Holds X G) (r j m : ℕ) (f : Filled X r) (
         prev = was .prev;
         new-phase = was .new-phase;
         fresh = was .fresh;
-        kind = kind′ (was .kind) }
+        kind = kind′ (was .kind);
+      }
     where
       lost′ : q ≢ r → Lost X G q (X .filling q) → Lost X′ G′ q (X .filling q)
       lost′ ne h = record { at = h .at; list = h .list; before = λ k a b. froze-more G r x q _ (h .before k a b); not = ap (λ f. f (nodeOf (X .filling q) (h .at))) (change-other (G .froze) r _ q ne) ∙ h .not; gone = passed′ q _ (h .gone) }
@@ -139,17 +140,26 @@ module _ (X : View) (G : Ghost) (H : Holds X G) (r j m : ℕ) (f : Filled X r) (
       kind′ : Planted X G q (X .filling q) ⊎ Copied X G q (X .filling q) → Planted X′ G′ q (X .filling q) ⊎ Copied X′ G′ q (X .filling q)
       kind′ (inl p) = inl (record { left = p .left; right = p .right; inner = p .inner; kids = p .kids; leaf-left = p .leaf-left; leaf-right = p .leaf-right; phase-left = p .phase-left; phase-right = p .phase-right; no-prev = p .no-prev; used = p .used; made = p .made; fresh = p .fresh; differ = p .differ })
       kind′ (inr c) = inr (record {
-        four = c .four; side = c .side; inner = c .inner;
+        four = c .four;
+        side = c .side;
+        inner = c .inner;
         sibling = λ h. c .sibling (held-was q 2 (filled-was q g) (record { low = omega arith; high = omega (arith, c .four) }) h);
         copy = λ e h. c .copy e (held-was q 4 (filled-was q g) (record { low = omega arith; high = omega (arith, c .four) }) h);
-        kind = c .kind; phase = c .phase })
+        kind = c .kind;
+        phase = c .phase;
+      })
 
   pub freeze-holds : Holds X′ G′
   freeze-holds = record {
-    records = record′; unfilled = H .unfilled;
+    records = record′;
+    unfilled = H .unfilled;
     blank = λ q n. let was = H .blank q (λ g. n (filled′ q g)) in (was .0, was .1, λ v. ap (λ h. h v) (change-other (G .froze) r _ q (λ e. n (rw e (filled′ r f)))) ∙ was .2 v);
-    dummy = H .dummy; stamps = H .stamps;
+    dummy = H .dummy;
+    stamps = H .stamps;
     words = λ v b. change-case (λ w. KnownWord X′ w × (w .info .0 ≢ 0 → G′ .froze (w .info .0) v ≡ true)) (X .update) x u v
-      (λ e. (inr (filled′ r f), λ ne. rw (e, change-same (G .froze) r (change (G .froze r) x true)) (change-same (G .froze r) x true)))
-      (λ e. let was = H .words v b in (known′ (X .update v) (was .0), λ ne. froze-more G r x _ v (was .1 ne)));
-    used = H .used; kids = H .kids; prevs = H .prevs }
+        (λ e. (inr (filled′ r f), λ ne. rw (e, change-same (G .froze) r (change (G .froze r) x true)) (change-same (G .froze r) x true)))
+        (λ e. let was = H .words v b in (known′ (X .update v) (was .0), λ ne. froze-more G r x _ v (was .1 ne)));
+    used = H .used;
+    kids = H .kids;
+    prevs = H .prevs;
+  }

@@ -103,9 +103,9 @@ module _ (X : View) (G : Ghost) (H : Holds X G) (r : ℕ) (f : Filled X r) (t : 
   -- ---- what is linked afterwards: all that was, and some of what was made with this record
 
   module _ (linked′ : ℕ → Bool) (more : (n : ℕ) → G .linked n ≡ true → linked′ n ≡ true) (only : (n : ℕ) → G .maker n ≢ r → linked′ n ≡ G .linked n)
-    (now : linked′ (newChildOf (X .filling r)) ≡ true) (used′ : (n : ℕ) → linked′ n ≡ true → n < X .nodes)
-    (kids′ : (n : ℕ) → linked′ n ≡ true → G .linked n ≡ false → X .fixed n .kind ≡ 1 → (s : Bool) → linked′ (K′ s n) ≡ true)
-    (prevs′ : (n y : ℕ) → linked′ n ≡ true → G .linked n ≡ false → X .fixed n .prev ≡ At (node y) → linked′ y ≡ true) where
+      (now : linked′ (newChildOf (X .filling r)) ≡ true) (used′ : (n : ℕ) → linked′ n ≡ true → n < X .nodes)
+      (kids′ : (n : ℕ) → linked′ n ≡ true → G .linked n ≡ false → X .fixed n .kind ≡ 1 → (s : Bool) → linked′ (K′ s n) ≡ true)
+      (prevs′ : (n y : ℕ) → linked′ n ≡ true → G .linked n ≡ false → X .fixed n .prev ≡ At (node y) → linked′ y ≡ true) where
     abbrev G′ : Ghost
     G′ = gLinked G linked′
 
@@ -159,7 +159,8 @@ module _ (X : View) (G : Ghost) (H : Holds X G) (r : ℕ) (f : Filled X r) (t : 
           prev = was .prev;
           new-phase = was .new-phase;
           fresh = λ h. let o = open-was q (filled-was q g) h in unlinked′ q (newChildOf (X .filling q)) (o .0) (was .made) (was .fresh (o .1));
-          kind = kind′ was (was .kind) }
+          kind = kind′ was (was .kind);
+        }
       where
         not-r : linked′ (newChildOf (X .filling q)) ≡ false → q ≢ r
         not-r h e = true≢false (sym now ∙ rw e at h)
@@ -169,30 +170,48 @@ module _ (X : View) (G : Ghost) (H : Holds X G) (r : ℕ) (f : Filled X r) (t : 
 
         kind′ : RecordHolds X G q (X .filling q) → Planted X G q (X .filling q) ⊎ Copied X G q (X .filling q) → Planted X′ G′ q (X .filling q) ⊎ Copied X′ G′ q (X .filling q)
         kind′ was (inl p) = inl (record {
-          left = p .left; right = p .right; inner = p .inner;
+          left = p .left;
+          right = p .right;
+          inner = p .inner;
           kids = λ h. let u = unlinked-was _ h in let k = p .kids u in (off-parent u true ∙ k .0, off-parent u false ∙ k .1);
-          leaf-left = p .leaf-left; leaf-right = p .leaf-right; phase-left = p .phase-left; phase-right = p .phase-right; no-prev = p .no-prev; used = p .used; made = p .made;
+          leaf-left = p .leaf-left;
+          leaf-right = p .leaf-right;
+          phase-left = p .phase-left;
+          phase-right = p .phase-right;
+          no-prev = p .no-prev;
+          used = p .used;
+          made = p .made;
           fresh = λ h. let u = p .fresh (unlinked-was _ h) in (unlinked′ q _ (not-r h) (p .made .0) (u .0), unlinked′ q _ (not-r h) (p .made .1) (u .1));
-          differ = p .differ })
+          differ = p .differ;
+        })
         kind′ was (inr c) = inr (record {
-          four = c .four; side = c .side; inner = c .inner;
+          four = c .four;
+          side = c .side;
+          inner = c .inner;
           sibling = λ h.
-            let o = held-was q 2 (filled-was q g) h in
-            let off : oldChildOf (X .filling q) ≢ parOf (X .filling r) = λ e. held-apart q 2 (filled-was q g) (record { low = omega arith; high = omega (arith, c .four) }) (o .0) (h .word) (was .second ∙ e) in
-            kid-other (X .kid) (sideOf X (X .filling r)) (parOf (X .filling r)) (newChildOf (X .filling r)) (c .side) (oldChildOf (X .filling q)) off ∙ c .sibling (o .1);
+              let o = held-was q 2 (filled-was q g) h in
+              let off : oldChildOf (X .filling q) ≢ parOf (X .filling r) = λ e. held-apart q 2 (filled-was q g) (record { low = omega arith; high = omega (arith, c .four) }) (o .0) (h .word) (was .second ∙ e) in
+              kid-other (X .kid) (sideOf X (X .filling r)) (parOf (X .filling r)) (newChildOf (X .filling r)) (c .side) (oldChildOf (X .filling q)) off ∙ c .sibling (o .1);
           copy = λ e h s.
-            let o = held-was q 4 (filled-was q g) h in
-            let off : nodeOf (X .filling q) 4 ≢ parOf (X .filling r) = held-apart q 4 (filled-was q g) (record { low = omega arith; high = omega (arith, c .four) }) (o .0) (h .word) in
-            off-parent (was .fresh (o .1 .open′)) s ∙ c .copy e (o .1) s ∙ sym (kid-other (X .kid) (sideOf X (X .filling r)) (parOf (X .filling r)) (newChildOf (X .filling r)) s (nodeOf (X .filling q) 4) off);
-          kind = c .kind; phase = c .phase })
+              let o = held-was q 4 (filled-was q g) h in
+              let off : nodeOf (X .filling q) 4 ≢ parOf (X .filling r) = held-apart q 4 (filled-was q g) (record { low = omega arith; high = omega (arith, c .four) }) (o .0) (h .word) in
+              off-parent (was .fresh (o .1 .open′)) s ∙ c .copy e (o .1) s ∙ sym (kid-other (X .kid) (sideOf X (X .filling r)) (parOf (X .filling r)) (newChildOf (X .filling r)) s (nodeOf (X .filling q) 4) off);
+          kind = c .kind;
+          phase = c .phase;
+        })
 
     pub link-holds : Holds X′ G′
     link-holds = record {
-      records = record′; unfilled = H .unfilled; blank = λ q n. H .blank q (λ g. n (filled′ q g)); dummy = H .dummy; stamps = H .stamps;
+      records = record′;
+      unfilled = H .unfilled;
+      blank = λ q n. H .blank q (λ g. n (filled′ q g));
+      dummy = H .dummy;
+      stamps = H .stamps;
       words = λ y b. let was = H .words y b in (elim (was .0) [ inl e ↦ inl e | inr g ↦ inr (filled′ _ g) ], was .1);
       used = used′;
       kids = λ v h k s. by v (G .linked v) refl h k s;
-      prevs = λ v y h e. back v y (G .linked v) refl h e }
+      prevs = λ v y h e. back v y (G .linked v) refl h e;
+    }
       where
         by : (v : ℕ) (b : Bool) → G .linked v ≡ b → linked′ v ≡ true → X .fixed v .kind ≡ 1 → (s : Bool) → linked′ (K′ s v) ≡ true
         by v true e h k s = kid-case (λ c. linked′ c ≡ true) (X .kid) (sideOf X (X .filling r)) (parOf (X .filling r)) (newChildOf (X .filling r)) s v (λ _ _. now) (more _ (H .kids v e k s))

@@ -56,25 +56,66 @@ pub record Rely (w : ℕ) (X X′ : View) (G G′ : Ghost) : Type 0 where
 
 pub rely-same : (w : ℕ) (X : View) (G : Ghost) → Rely w X X G G
 rely-same w X G = record {
-  filled = λ r f. f; filling = λ r f. refl; fixed = λ v l. refl; maker = λ v l. refl; owner = λ r l. refl; nodes = omega arith; records = omega arith; counter = omega arith;
-  linked = λ v h. h; froze = λ r v h. h; tried = λ r h. h; seen = λ v u h. h; final = λ u k h. h; begun = λ r f h. h; past = λ r f h. h; passed = λ r j f i h. h; lost = λ r f h. h;
-  kids = λ v h. inl (λ s. refl); unfilled = λ r l o h. h; unseen = λ r f o h. (h, refl, refl); mine = λ v l h m o u. (h, λ s. refl) }
+  filled = λ r f. f;
+  filling = λ r f. refl;
+  fixed = λ v l. refl;
+  maker = λ v l. refl;
+  owner = λ r l. refl;
+  nodes = omega arith;
+  records = omega arith;
+  counter = omega arith;
+  linked = λ v h. h;
+  froze = λ r v h. h;
+  tried = λ r h. h;
+  seen = λ v u h. h;
+  final = λ u k h. h;
+  begun = λ r f h. h;
+  past = λ r f h. h;
+  passed = λ r j f i h. h;
+  lost = λ r f h. h;
+  kids = λ v h. inl (λ s. refl);
+  unfilled = λ r l o h. h;
+  unseen = λ r f o h. (h, refl, refl);
+  mine = λ v l h m o u. (h, λ s. refl);
+}
 
 pub rely-counter : (w : ℕ) (X : View) (G : Ghost) (c : ℕ) → X .counter ≤ c → Rely w X (wCounter X c) G G
 rely-counter w X G c le = record {
-  filled = λ r f. record { used = f .used; some = f .some }; filling = λ r f. refl; fixed = λ v l. refl; maker = λ v l. refl; owner = λ r l. refl; nodes = omega arith; records = omega arith; counter = le;
-  linked = λ v h. h; froze = λ r v h. h; tried = λ r h. h;
+  filled = λ r f. record { used = f .used; some = f .some };
+  filling = λ r f. refl;
+  fixed = λ v l. refl;
+  maker = λ v l. refl;
+  owner = λ r l. refl;
+  nodes = omega arith;
+  records = omega arith;
+  counter = le;
+  linked = λ v h. h;
+  froze = λ r v h. h;
+  tried = λ r h. h;
   seen = λ v u h. record { used = h .used; known = elim (h .known) [ inl e ↦ inl e | inr f ↦ inr (record { used = f .used; some = f .some }) ]; since = h .since; mine = h .mine };
-  final = λ u k h. h; begun = λ r f h. h; past = λ r f h. h; passed = λ r j f i h. h;
+  final = λ u k h. h;
+  begun = λ r f h. h;
+  past = λ r f h. h;
+  passed = λ r j f i h. h;
   lost = λ r f h. record { at = h .at; list = h .list; before = h .before; not = h .not; gone = h .gone };
-  kids = λ v h. inl (λ s. refl); unfilled = λ r l o h. h; unseen = λ r f o h. (h, refl, refl); mine = λ v l h m o u. (h, λ s. refl) }
+  kids = λ v h. inl (λ s. refl);
+  unfilled = λ r l o h. h;
+  unseen = λ r f o h. (h, refl, refl);
+  mine = λ v l h m o u. (h, λ s. refl);
+}
 
 pub counter-holds : (X : View) (G : Ghost) (c : ℕ) → Holds X G → Holds (wCounter X c) G
 counter-holds X G c H = record {
   records = λ r f. again r (H .records r (record { used = f .used; some = f .some }));
-  unfilled = H .unfilled; blank = λ r n. H .blank r (λ f. n (record { used = f .used; some = f .some })); dummy = H .dummy; stamps = H .stamps;
+  unfilled = H .unfilled;
+  blank = λ r n. H .blank r (λ f. n (record { used = f .used; some = f .some }));
+  dummy = H .dummy;
+  stamps = H .stamps;
   words = λ v l. let was = H .words v l in (elim (was .0) [ inl e ↦ inl e | inr f ↦ inr (record { used = f .used; some = f .some }) ], was .1);
-  used = H .used; kids = H .kids; prevs = H .prevs }
+  used = H .used;
+  kids = H .kids;
+  prevs = H .prevs;
+}
   where
     seen′ : (v : ℕ) (u : Update) → Seen X G v u → Seen (wCounter X c) G v u
     seen′ v u h = record { used = h .used; known = elim (h .known) [ inl e ↦ inl e | inr f ↦ inr (record { used = f .used; some = f .some }) ]; since = h .since; mine = h .mine }
@@ -91,33 +132,46 @@ counter-holds X G c H = record {
 -- a record that can still be frozen at j is not lost
 pub not-lost : (X : View) (G : Ghost) (r j : ℕ) → RecordHolds X G r (X .filling r) → InList (X .filling r) j → FrozeTo G r (X .filling r) j → X .update (nodeOf (X .filling r) j) ≡ oldOf (X .filling r) j → Lost X G r (X .filling r) → ⊥
 not-lost X G r j R l to hit h = elim (decLe (suc (h .at)) j) [
-  yes a ↦ true≢false (sym (to (h .at) (h .list .low) a) ∙ h .not)
+  | yes a ↦ true≢false (sym (to (h .at) (h .list .low) a) ∙ h .not)
   | no a ↦ elim (decLe (suc j) (h .at)) [
-    yes b ↦
-      let low : G .stamp r ≤ G .stamp (X .update (nodeOf (X .filling r) j) .info .0) = R .later _ (h .before j (l .low) b) in
-      let high : G .stamp (oldOf (X .filling r) j .info .0) < G .stamp r = R .old-stamp j l in
-      let same : G .stamp (X .update (nodeOf (X .filling r) j) .info .0) ≡ G .stamp (oldOf (X .filling r) j .info .0) = ap (λ (u : Update). G .stamp (u .info .0)) hit in
-      omega arith
+    | yes b ↦
+        let low : G .stamp r ≤ G .stamp (X .update (nodeOf (X .filling r) j) .info .0) = R .later _ (h .before j (l .low) b) in
+        let high : G .stamp (oldOf (X .filling r) j .info .0) < G .stamp r = R .old-stamp j l in
+        let same : G .stamp (X .update (nodeOf (X .filling r) j) .info .0) ≡ G .stamp (oldOf (X .filling r) j .info .0) = ap (λ (u : Update). G .stamp (u .info .0)) hit in
+        omega arith
     | no b ↦
-      let same : h .at ≡ j = omega arith in
-      let gone : Passed X G (X .filling r) j = rw same at (h .gone) in
-      let still : G .stamp (X .update (nodeOf (X .filling r) j) .info .0) ≡ G .stamp (oldOf (X .filling r) j .info .0) = ap (λ (u : Update). G .stamp (u .info .0)) hit in
-      omega arith
+        let same : h .at ≡ j = omega arith in
+        let gone : Passed X G (X .filling r) j = rw same at (h .gone) in
+        let still : G .stamp (X .update (nodeOf (X .filling r) j) .info .0) ≡ G .stamp (oldOf (X .filling r) j .info .0) = ap (λ (u : Update). G .stamp (u .info .0)) hit in
+        omega arith
   ]
 ]
 
 pub rely-freeze : (w : ℕ) (X : View) (G : Ghost) (H : Holds X G) (r j m : ℕ) (f : Filled X r) (l : InList (X .filling r) j) (live : Live X r) (hit : X .update (nodeOf (X .filling r) j) ≡ oldOf (X .filling r) j) (order : (j ≡ 1) ⊎ (G .froze r (nodeOf (X .filling r) 1) ≡ true)) → (Lost X G r (X .filling r) → ⊥) → (Unseen G r → G .owner r ≡ w)
-  → Rely w X (wUpdate X (nodeOf (X .filling r) j) (update m (recordNo r))) G (gFroze G r (nodeOf (X .filling r) j))
+    → Rely w X (wUpdate X (nodeOf (X .filling r) j) (update m (recordNo r))) G (gFroze G r (nodeOf (X .filling r) j))
 rely-freeze w X G H r j m f l live hit order alive own = record {
-  filled = λ q g. record { used = g .used; some = g .some }; filling = λ q g. refl; fixed = λ v l. refl; maker = λ v l. refl; owner = λ q l. refl; nodes = omega arith; records = omega arith; counter = omega arith;
-  linked = λ v h. h; froze = λ q v h. froze-more G r (nodeOf (X .filling r) j) q v h; tried = λ q h. h;
+  filled = λ q g. record { used = g .used; some = g .some };
+  filling = λ q g. refl;
+  fixed = λ v l. refl;
+  maker = λ v l. refl;
+  owner = λ q l. refl;
+  nodes = omega arith;
+  records = omega arith;
+  counter = omega arith;
+  linked = λ v h. h;
+  froze = λ q v h. froze-more G r (nodeOf (X .filling r) j) q v h;
+  tried = λ q h. h;
   seen = freeze.seen′ X G H r j m f l live hit order;
-  final = λ u k h. h; begun = λ q g h. h; past = λ q g h. h;
+  final = λ u k h. h;
+  begun = λ q g h. h;
+  past = λ q g h. h;
   passed = λ q k g i h. omega (arith, up (nodeOf (X .filling q) k));
   lost = λ q g h. by-equal q r (λ e. absurd (alive (rw e at h))) (λ e. record { at = h .at; list = h .list; before = λ i a b. froze-more G r (nodeOf (X .filling r) j) q _ (h .before i a b); not = same q e _ ∙ h .not; gone = omega (arith, h .gone, up (nodeOf (X .filling q) (h .at))) });
-  kids = λ v h. inl (λ s. refl); unfilled = λ q l o h. h;
+  kids = λ v h. inl (λ s. refl);
+  unfilled = λ q l o h. h;
   unseen = λ q g o h. ((λ v. same q (λ e. o (rw e (own (rw e at h)))) v ∙ h v), refl, refl);
-  mine = λ v l h k o u. (h, λ s. refl) }
+  mine = λ v l h k o u. (h, λ s. refl);
+}
   where
     up : (v : ℕ) → G .stamp (X .update v .info .0) ≤ G .stamp (change (X .update) (nodeOf (X .filling r) j) (update m (recordNo r)) v .info .0)
     up = stamp-up X G H r j m f l live hit order
@@ -129,23 +183,44 @@ rely-freeze w X G H r j m f l live hit order alive own = record {
 
 pub rely-state : (w : ℕ) (X : View) (G : Ghost) (H : Holds X G) (r v : ℕ) (t : ℕ → Bool) (S : Sets X G r v t) → (trying ≤ X .state r → trying ≤ v) → (G .tried r ≡ true → t r ≡ true) → (Unseen G r → ⊥) → Rely w X (wState X r v) G (gTried G t)
 rely-state w X G H r v t S up more shown = record {
-  filled = λ q g. record { used = g .used; some = g .some }; filling = λ q g. refl; fixed = λ y l. refl; maker = λ y l. refl; owner = λ q l. refl; nodes = omega arith; records = omega arith; counter = omega arith;
-  linked = λ y h. h; froze = λ q y h. h; tried = λ q h. by-equal q r (λ e. rw e (more (rw e at h))) (λ e. S .other q e ∙ h);
+  filled = λ q g. record { used = g .used; some = g .some };
+  filling = λ q g. refl;
+  fixed = λ y l. refl;
+  maker = λ y l. refl;
+  owner = λ q l. refl;
+  nodes = omega arith;
+  records = omega arith;
+  counter = omega arith;
+  linked = λ y h. h;
+  froze = λ q y h. h;
+  tried = λ q h. by-equal q r (λ e. rw e (more (rw e at h))) (λ e. S .other q e ∙ h);
   seen = setting.seen′ X G H r v t S;
   final = λ u k h. setting.final′ X G H r v t S (u .info .0) h;
   begun = λ q g h. change-case (λ s. trying ≤ s) (X .state) r v q (λ e. up (rw e at h)) (λ e. h);
-  past = λ q g h. h; passed = λ q k g i h. h;
+  past = λ q g h. h;
+  passed = λ q k g i h. h;
   lost = λ q g h. record { at = h .at; list = h .list; before = h .before; not = h .not; gone = h .gone };
-  kids = λ y h. inl (λ s. refl); unfilled = λ q l o h. h;
+  kids = λ y h. inl (λ s. refl);
+  unfilled = λ q l o h. h;
   unseen = λ q g o h. let ne : q ≢ r = λ e. shown (rw e at h) in (h, change-other (X .state) r v q ne, S .other q ne);
-  mine = λ y l h k o u. (h, λ s. refl) }
+  mine = λ y l h k o u. (h, λ s. refl);
+}
 
 -- ---- a record filled
 
 pub rely-fill : (w : ℕ) (X : View) (G : Ghost) (H : Holds X G) (r : ℕ) (f : Filling) (F : Fills X G r f) → G .owner r ≡ w → Rely w X (wRecord X r undecided f) G (gFilled G r)
 rely-fill w X G H r f F own = record {
-  filled = filling.filled′ X G H r f F; filling = λ q g. filling.same X G H r f F q (filling.differs X G H r f F q g); fixed = λ v l. refl; maker = λ v l. refl; owner = λ q l. refl; nodes = omega arith; records = omega arith; counter = omega arith;
-  linked = λ v h. h; froze = λ q v h. h; tried = λ q h. h;
+  filled = filling.filled′ X G H r f F;
+  filling = λ q g. filling.same X G H r f F q (filling.differs X G H r f F q g);
+  fixed = λ v l. refl;
+  maker = λ v l. refl;
+  owner = λ q l. refl;
+  nodes = omega arith;
+  records = omega arith;
+  counter = omega arith;
+  linked = λ v h. h;
+  froze = λ q v h. h;
+  tried = λ q h. h;
   seen = filling.seen′ X G H r f F;
   final = filling.final′ X G H r f F;
   begun = λ q g h. rw (filling.state-same X G H r f F q (filling.differs X G H r f F q g)) h;
@@ -155,4 +230,5 @@ rely-fill w X G H r f F own = record {
   kids = λ v h. inl (λ s. refl);
   unfilled = λ q l o h. ap (λ (g : Filling). g .count) (change-other (X .filling) r f q (λ e. o (rw e own))) ∙ h;
   unseen = λ q g o h. (h, filling.state-same X G H r f F q (filling.differs X G H r f F q g), refl);
-  mine = λ v l h k o u. (h, λ s. refl) }
+  mine = λ v l h k o u. (h, λ s. refl);
+}

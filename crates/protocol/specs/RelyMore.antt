@@ -20,7 +20,7 @@ use Rattle.protocol.specs.Frame as frame
 use Rattle.protocol.specs.Rely.{Unseen, Rely}
 
 module _ (w : ℕ) (X : View) (G : Ghost) (H : Holds X G) (r : ℕ) (f : Filled X r) (t : G .tried r ≡ true) (all : FrozeAll G r (X .filling r)) (hit : linkOf X (X .filling r) ≡ oldChildOf (X .filling r))
-  (linked′ : ℕ → Bool) (more : (n : ℕ) → G .linked n ≡ true → linked′ n ≡ true) (only : (n : ℕ) → G .maker n ≢ r → linked′ n ≡ G .linked n) where
+    (linked′ : ℕ → Bool) (more : (n : ℕ) → G .linked n ≡ true → linked′ n ≡ true) (only : (n : ℕ) → G .maker n ≢ r → linked′ n ≡ G .linked n) where
   R : RecordHolds X G r (X .filling r)
   R = H .records r f
 
@@ -40,19 +40,31 @@ module _ (w : ℕ) (X : View) (G : Ghost) (H : Holds X G) (r : ℕ) (f : Filled 
 
   pub rely-link : Rely w X (wKid X (sideOf X (X .filling r)) (parOf (X .filling r)) (newChildOf (X .filling r))) G (gLinked G linked′)
   rely-link = record {
-    filled = λ q g. record { used = g .used; some = g .some }; filling = λ q g. refl; fixed = λ v l. refl; maker = λ v l. refl; owner = λ q l. refl; nodes = omega arith; records = omega arith; counter = omega arith;
-    linked = more; froze = λ q v h. h; tried = λ q h. h;
+    filled = λ q g. record { used = g .used; some = g .some };
+    filling = λ q g. refl;
+    fixed = λ v l. refl;
+    maker = λ v l. refl;
+    owner = λ q l. refl;
+    nodes = omega arith;
+    records = omega arith;
+    counter = omega arith;
+    linked = more;
+    froze = λ q v h. h;
+    tried = λ q h. h;
     seen = λ v u h. record { used = h .used; known = elim (h .known) [ inl e ↦ inl e | inr g ↦ inr (record { used = g .used; some = g .some }) ]; since = h .since; mine = h .mine };
-    final = λ u k h. h; begun = λ q g h. h;
+    final = λ u k h. h;
+    begun = λ q g h. h;
     past = linking.past′ X G H r f t all hit;
     passed = λ q k g i h. h;
     lost = λ q g h. record { at = h .at; list = h .list; before = h .before; not = h .not; gone = h .gone };
     kids = λ v h. by-equal v (parOf (X .filling r)) (λ e. inr (rw e par-live)) (λ e. inl (λ s. kid-other (X .kid) (sideOf X (X .filling r)) (parOf (X .filling r)) (newChildOf (X .filling r)) s v e));
     unfilled = λ q l o h. h;
     unseen = λ q g o h. (h, refl, refl);
-    mine = λ v l h k o u.
-      (only v (λ e. true≢false (sym (all 1 first-in) ∙ (rw e at u) (nodeOf (X .filling r) 1))) ∙ h,
-       λ s. kid-other (X .kid) (sideOf X (X .filling r)) (parOf (X .filling r)) (newChildOf (X .filling r)) s v (λ e. true≢false (sym par-linked ∙ rw e at h))) }
+    mine = λ v l h k o u. (
+      only v (λ e. true≢false (sym (all 1 first-in) ∙ (rw e at u) (nodeOf (X .filling r) 1))) ∙ h,
+      λ s. kid-other (X .kid) (sideOf X (X .filling r)) (parOf (X .filling r)) (newChildOf (X .filling r)) s v (λ e. true≢false (sym par-linked ∙ rw e at h)),
+    );
+  }
 
 -- ---- written aside
 
@@ -65,8 +77,17 @@ pub record Aside (w : ℕ) (X X′ : View) (G G′ : Ghost) : Type 0 where
 
 pub rely-aside : (w : ℕ) (X X′ : View) (G G′ : Ghost) (P : ℕ → Type 0) (H : Holds X G) (A : Agrees X X′ G G′ P) → Aside w X X′ G G′ → Rely w X X′ G G′
 rely-aside w X X′ G G′ P H A B = record {
-  filled = frame.filled′ X X′ G G′ P H A; filling = λ q g. A .filling q (g .used); fixed = B .fixed; maker = B .maker; owner = B .owner; nodes = A .nodes; records = A .records; counter = B .counter;
-  linked = λ v h. rw (A .linked) h; froze = λ q v h. rw (A .froze) h; tried = λ q h. rw (A .tried) h;
+  filled = frame.filled′ X X′ G G′ P H A;
+  filling = λ q g. A .filling q (g .used);
+  fixed = B .fixed;
+  maker = B .maker;
+  owner = B .owner;
+  nodes = A .nodes;
+  records = A .records;
+  counter = B .counter;
+  linked = λ v h. rw (A .linked) h;
+  froze = λ q v h. rw (A .froze) h;
+  tried = λ q h. rw (A .tried) h;
   seen = frame.seen′ X X′ G G′ P H A;
   final = frame.final′ X X′ G G′ P H A;
   begun = λ q g h. rw (A .state q (g .used)) h;
@@ -76,4 +97,5 @@ rely-aside w X X′ G G′ P H A B = record {
   kids = λ v h. inl (λ s. A .kid v (A .of-linked v h) s);
   unfilled = λ q l o h. ap (λ (g : Filling). g .count) (A .filling q l) ∙ h;
   unseen = λ q g o h. ((λ v. rw (A .froze) (h v)), A .state q (g .used), ap (λ k. k q) (A .tried));
-  mine = λ v l h k o u. (rw (A .linked) h, B .kids v l h k o) }
+  mine = λ v l h k o u. (rw (A .linked) h, B .kids v l h k o);
+}

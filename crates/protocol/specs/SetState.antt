@@ -67,11 +67,11 @@ module _ (X : View) (G : Ghost) (H : Holds X G) (r v : ℕ) (t : ℕ → Bool) (
         tried-state = by-equal q r (λ e. rw (e, change-same (X .state) r v) (S .tried)) (λ e. rw (S .other q e, change-other (X .state) r v q e) (was .tried-state));
         most = change-case (λ s. s ≤ aborted) (X .state) r v q (λ e. S .most) (λ e. was .most);
         commits = by-equal q r
-          (λ e h. rw e (let c = S .commits (sym (change-same (X .state) r v) ∙ (rw e at h)) in (c .0, (λ k i. c .1 k i), c .2)))
-          (λ e h. let c = was .commits (sym (change-other (X .state) r v q e) ∙ h) in (S .other q e ∙ c .0, (λ k i. c .1 k i), c .2));
+            (λ e h. rw e (let c = S .commits (sym (change-same (X .state) r v) ∙ (rw e at h)) in (c .0, (λ k i. c .1 k i), c .2)))
+            (λ e h. let c = was .commits (sym (change-other (X .state) r v q e) ∙ h) in (S .other q e ∙ c .0, (λ k i. c .1 k i), c .2));
         aborts = by-equal q r
-          (λ e h d. rw e (lost′ r (S .aborts (sym (change-same (X .state) r v) ∙ (rw e at h)) (rw e at d))))
-          (λ e h d. lost′ q (was .aborts (sym (change-other (X .state) r v q e) ∙ h) (sym (S .other q e) ∙ d)));
+            (λ e h d. rw e (lost′ r (S .aborts (sym (change-same (X .state) r v) ∙ (rw e at h)) (rw e at d))))
+            (λ e h d. lost′ q (was .aborts (sym (change-other (X .state) r v q e) ∙ h) (sym (S .other q e) ∙ d)));
         two = was .two;
         most-listed = was .most-listed;
         first = was .first;
@@ -85,7 +85,8 @@ module _ (X : View) (G : Ghost) (H : Holds X G) (r v : ℕ) (t : ℕ → Bool) (
         prev = was .prev;
         new-phase = was .new-phase;
         fresh = was .fresh;
-        kind = kind′ (was .kind) }
+        kind = kind′ (was .kind);
+      }
     where
       kind′ : Planted X G q (X .filling q) ⊎ Copied X G q (X .filling q) → Planted X′ G′ q (X .filling q) ⊎ Copied X′ G′ q (X .filling q)
       kind′ (inl p) = inl (record { left = p .left; right = p .right; inner = p .inner; kids = p .kids; leaf-left = p .leaf-left; leaf-right = p .leaf-right; phase-left = p .phase-left; phase-right = p .phase-right; no-prev = p .no-prev; used = p .used; made = p .made; fresh = p .fresh; differ = p .differ })
@@ -96,9 +97,13 @@ module _ (X : View) (G : Ghost) (H : Holds X G) (r v : ℕ) (t : ℕ → Bool) (
     records = record′;
     unfilled = λ q l e. change-other (X .state) r v q (λ d. let some : 0 < X .filling q .count = rw d (S .filled .some) in omega arith) ∙ H .unfilled q l e;
     blank = λ q n. let was = H .blank q (λ g. n (filled′ q g)) in (was .0, S .other q (λ e. n (rw e (filled′ r (S .filled)))) ∙ was .1, was .2);
-    dummy = H .dummy; stamps = H .stamps;
+    dummy = H .dummy;
+    stamps = H .stamps;
     words = λ y b. let was = H .words y b in (elim (was .0) [ inl e ↦ inl e | inr g ↦ inr (filled′ _ g) ], was .1);
-    used = H .used; kids = H .kids; prevs = H .prevs }
+    used = H .used;
+    kids = H .kids;
+    prevs = H .prevs;
+  }
 
 -- ---- the four changes of HELP
 

@@ -47,8 +47,8 @@ module _ (t : Totals) (ns rs : List ℕ) (rows : ℕ) (has : HasRows nodeWidth n
   pub view-setChild : (x : NodeNo) (left : Bool) (c : NodeNo) → x .0 < rows → view (tables t (setChild ns x left c) rs) ≡ wKid (view (tables t ns rs)) left (x .0) (c .0)
   unfolding view
   view-setChild x left c l = view-is _ _ (fun-ext (λ n. update-setChild ns x left c (node n))) (fun-ext (λ n. fixed-setChild ns x left c (node n)))
-    (changeOn-is (λ s n. childAt ns (node n) s .0) left (x .0) (c .0) _ (ap (λ (y : NodeNo). y .0) (child-setChild-same ns x left c rows has l)) (λ s n ne. ap (λ (y : NodeNo). y .0) (elsewhere left s n ne)))
-    refl refl refl refl refl
+      (changeOn-is (λ s n. childAt ns (node n) s .0) left (x .0) (c .0) _ (ap (λ (y : NodeNo). y .0) (child-setChild-same ns x left c rows has l)) (λ s n ne. ap (λ (y : NodeNo). y .0) (elsewhere left s n ne)))
+      refl refl refl refl refl
     where
       elsewhere : (d s : Bool) (n : ℕ) → (s ≡ d → n ≡ x .0 → ⊥) → childAt (setChild ns x d c) (node n) s ≡ childAt ns (node n) s
       elsewhere true true n ne = child-setChild-node ns x true c (node n) true (ne refl)
@@ -62,13 +62,13 @@ module _ (t : Totals) (ns rs : List ℕ) (rows : ℕ) (has : HasRows nodeWidth n
       (change-is _ _ (x .0) freshWord (update-newNode-same ns x kind k q prev left right rows has l) (λ n ne. update-newNode-node ns x kind k q prev left right (node n) ne))
       (change-is _ _ (x .0) _ (fixed-newNode-same ns x kind k q prev left right rows has l) (λ n ne. fixed-newNode-node ns x kind k q prev left right (node n) ne))
       (changeOn-is (changeOn (λ s n. childAt ns (node n) s .0) true (x .0) (left .0)) false (x .0) (right .0) _ (ap (λ (y : NodeNo). y .0) (child-newNode-right ns x kind k q prev left right rows has l)) elsewhere)
-    refl refl refl refl refl
+      refl refl refl refl refl
     where
       elsewhere : (s : Bool) (n : ℕ) → (s ≡ false → n ≡ x .0 → ⊥) → childAt (newNode ns x kind k q prev left right) (node n) s .0 ≡ changeOn (λ s n. childAt ns (node n) s .0) true (x .0) (left .0) s n
       elsewhere false n ne = ap (λ (y : NodeNo). y .0) (child-newNode-node ns x kind k q prev left right (node n) (ne refl) false) ∙ sym (changeOn-other (λ s n. childAt ns (node n) s .0) true (x .0) (left .0) false n (λ e d. false≢true e))
       elsewhere true n ne = by-equal n (x .0)
-        (λ e. rw e (ap (λ (y : NodeNo). y .0) (child-newNode-left ns x kind k q prev left right rows has l) ∙ sym (changeOn-same (λ s n. childAt ns (node n) s .0) true (x .0) (left .0))))
-        (λ e. ap (λ (y : NodeNo). y .0) (child-newNode-node ns x kind k q prev left right (node n) e true) ∙ sym (changeOn-other (λ s n. childAt ns (node n) s .0) true (x .0) (left .0) true n (λ _ d. e d)))
+          (λ e. rw e (ap (λ (y : NodeNo). y .0) (child-newNode-left ns x kind k q prev left right rows has l) ∙ sym (changeOn-same (λ s n. childAt ns (node n) s .0) true (x .0) (left .0))))
+          (λ e. ap (λ (y : NodeNo). y .0) (child-newNode-node ns x kind k q prev left right (node n) e true) ∙ sym (changeOn-other (λ s n. childAt ns (node n) s .0) true (x .0) (left .0) true n (λ _ d. e d)))
 
 module _ (t : Totals) (ns rs : List ℕ) (rows : ℕ) (has : HasRows recordWidth rs rows) where
   pub view-setState : (r : RecordNo) (v : ℕ) → r .0 < rows → view (tables t ns (setState rs r v)) ≡ wState (view (tables t ns rs)) (r .0) v

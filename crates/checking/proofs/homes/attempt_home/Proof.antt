@@ -6,77 +6,55 @@ use Rattle.sound.specs.Homes.{attemptHome}
 use borrow.Author.Needs.{needs}
 use Rattle.checking.proofs.homes.attempt_home.Statement.{statement}
 use Rattle.checking.proofs.homes.attempt_home.Tie as tie
-use Rattle.checking.proofs.homes.attempt_home.Reads as reads
-use Rattle.checking.proofs.homes.attempt_home.Lts as lts
-use Rattle.checking.proofs.homes.back_home.Reads as back-home-reads
-use Rattle.checking.proofs.homes.is_delete.Reads as is-delete-reads
-use Rattle.checking.proofs.homes.is_insert.Reads as is-insert-reads
-use Rattle.checking.proofs.homes.is_update.Reads as is-update-reads
-use Rattle.checking.proofs.homes.link_home.Reads as link-home-reads
 
--- src/homes.rt:74:21
 enum-known-q : tie.Need-enum-known-q
 enum-known-q c = search needs
 
--- src/homes.rt:74:30
 link-home-requires : tie.Need-link-home-requires
 link-home-requires c κs = search needs
 
--- src/homes.rt:75:27
 enum-told : tie.Need-enum-told
 enum-told c = search needs
 
--- src/homes.rt:75:27
 is-insert-requires : tie.Need-is-insert-requires
 is-insert-requires c κs = search needs
 
--- src/homes.rt:80:29
 is-delete-requires : tie.Need-is-delete-requires
 is-delete-requires c κs = search needs
 
--- src/homes.rt:81:64
 is-update-requires : tie.Need-is-update-requires
 is-update-requires c κs = search needs
 
--- src/homes.rt:82:24
 enum-known-q-2 : tie.Need-enum-known-q-2
 enum-known-q-2 c = search needs
 
--- src/homes.rt:82:30
 back-home-requires : tie.Need-back-home-requires
 back-home-requires c κs = search needs
 
--- src/homes.rt:69:1
 returns : tie.Need-returns
 unfolding attemptHome
 returns c = arm (attemptHome _) (places _) _ (place-listed (c .before .args .q)) (0 ∷ 1 ∷ 3 ∷ 4 ∷ []) refl (c .match .keys1)
 
--- src/homes.rt:69:1
 returns-2 : tie.Need-returns-2
 unfolding attemptHome
 returns-2 c = rw (c .before .before .q .given .1) (c .link-home .ensures)
 
--- src/homes.rt:69:1
 returns-3 : tie.Need-returns-3
 unfolding attemptHome
 returns-3 c = rw (c .before .enum-told .given .1) (c .is-insert .ensures)
 
--- src/homes.rt:69:1
 returns-4 : tie.Need-returns-4
 unfolding attemptHome
 returns-4 c = c .is-delete .ensures ∙ arm (attemptHome _) (places _) _ (place-listed (c .before .before .args .q)) (6 ∷ 7 ∷ 8 ∷ 9 ∷ 10 ∷ []) refl (c .before .match .keys4)
 
--- src/homes.rt:69:1
 returns-5 : tie.Need-returns-5
 unfolding attemptHome
 returns-5 c = c .is-update .ensures ∙ arm (attemptHome _) (places _) _ (place-listed (c .before .before .args .q)) (11 ∷ 12 ∷ 13 ∷ []) refl (c .before .match .keys5)
 
--- src/homes.rt:69:1
 returns-6 : tie.Need-returns-6
 unfolding attemptHome
 returns-6 c = rw (c .before .before .q2 .given .1) (c .back-home .ensures)
 
--- src/homes.rt:69:1
 returns-7 : tie.Need-returns-7
 unfolding attemptHome
 returns-7 c = arm (attemptHome _) (places _) _ (place-listed (c .before .args .q)) (15 ∷ 16 ∷ 17 ∷ 18 ∷ 19 ∷ 20 ∷ []) refl (c .match .keys7)

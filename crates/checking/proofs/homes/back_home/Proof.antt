@@ -3,37 +3,27 @@ use Rattle.sound.specs.Homes.{backHome}
 use borrow.Author.Needs.{needs}
 use Rattle.checking.proofs.homes.back_home.Statement.{statement}
 use Rattle.checking.proofs.homes.back_home.Tie as tie
-use Rattle.checking.proofs.homes.back_home.Reads as reads
-use Rattle.checking.proofs.homes.back_home.Lts as lts
-use Rattle.checking.proofs.homes.is_update.Reads as is-update-reads
 
--- src/homes.rt:62:22
 enum-told : tie.Need-enum-told
 enum-told c = search needs
 
--- src/homes.rt:62:22
 is-update-requires : tie.Need-is-update-requires
 is-update-requires c κs = search needs
 
--- src/homes.rt:63:24
 enum-told-2 : tie.Need-enum-told-2
 enum-told-2 c = search needs
 
--- src/homes.rt:64:23
 enum-told-3 : tie.Need-enum-told-3
 enum-told-3 c = search needs
 
--- src/homes.rt:58:1
 returns : tie.Need-returns
 unfolding backHome
 returns c = rw (c .before .enum-told .given .1) (c .is-update .ensures)
 
--- src/homes.rt:58:1
 returns-2 : tie.Need-returns-2
 unfolding backHome
 returns-2 c = rw (c .enum-told2 .given .1) refl
 
--- src/homes.rt:58:1
 returns-3 : tie.Need-returns-3
 unfolding backHome
 returns-3 c = rw (c .enum-told3 .given .1) refl

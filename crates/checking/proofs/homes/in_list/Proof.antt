@@ -5,15 +5,11 @@ use Rattle.shapes.proofs.Variants.{steps, step-listed}
 use Rattle.sound.specs.Homes.{inList}
 use Rattle.checking.proofs.homes.in_list.Statement.{statement}
 use Rattle.checking.proofs.homes.in_list.Tie as tie
-use Rattle.checking.proofs.homes.in_list.Reads as reads
-use Rattle.checking.proofs.homes.in_list.Lts as lts
 
--- src/homes.rt:131:1
 returns : tie.Need-returns
 unfolding inList
 returns c = arm inList steps _ (step-listed (c .before .args .s)) (4 ∷ 5 ∷ []) refl (c .match .keys1)
 
--- src/homes.rt:131:1
 returns-2 : tie.Need-returns-2
 unfolding inList
 returns-2 c = arm inList steps _ (step-listed (c .before .args .s)) (0 ∷ 1 ∷ 2 ∷ 3 ∷ 6 ∷ 7 ∷ 8 ∷ 9 ∷ 10 ∷ []) refl (c .match .keys2)

@@ -6,19 +6,14 @@ use Rattle.sound.specs.Homes.{isDelete}
 use borrow.Author.Needs.{needs}
 use Rattle.checking.proofs.homes.is_delete.Statement.{statement}
 use Rattle.checking.proofs.homes.is_delete.Tie as tie
-use Rattle.checking.proofs.homes.is_delete.Reads as reads
-use Rattle.checking.proofs.homes.is_delete.Lts as lts
 
--- src/homes.rt:23:25
 enum-told : tie.Need-enum-told
 enum-told c = search needs
 
--- src/homes.rt:19:1
 returns : tie.Need-returns
 unfolding isDelete
 returns c = rw (c .enum-told .given .1) refl
 
--- src/homes.rt:19:1
 returns-2 : tie.Need-returns-2
 unfolding isDelete
 returns-2 c = arm isDelete kinds _ (kind-listed (c .before .args .o)) (0 ∷ 2 ∷ []) refl (c .match .keys2)

@@ -6,19 +6,14 @@ use Rattle.sound.specs.Homes.{isNode}
 use borrow.Author.Needs.{needs}
 use Rattle.checking.proofs.homes.is_node.Statement.{statement}
 use Rattle.checking.proofs.homes.is_node.Tie as tie
-use Rattle.checking.proofs.homes.is_node.Reads as reads
-use Rattle.checking.proofs.homes.is_node.Lts as lts
 
--- src/homes.rt:96:23
 enum-told : tie.Need-enum-told
 enum-told c = search needs
 
--- src/homes.rt:92:1
 returns : tie.Need-returns
 unfolding isNode
 returns c = rw (c .enum-told .given .1) refl
 
--- src/homes.rt:92:1
 returns-2 : tie.Need-returns-2
 unfolding isNode
 returns-2 c = arm isNode backs _ (back-listed (c .before .args .b)) (0 ∷ 1 ∷ []) refl (c .match .keys2)

@@ -6,19 +6,14 @@ use Rattle.sound.specs.Homes.{isUpdate}
 use borrow.Author.Needs.{needs}
 use Rattle.checking.proofs.homes.is_update.Statement.{statement}
 use Rattle.checking.proofs.homes.is_update.Tie as tie
-use Rattle.checking.proofs.homes.is_update.Reads as reads
-use Rattle.checking.proofs.homes.is_update.Lts as lts
 
--- src/homes.rt:34:23
 enum-told : tie.Need-enum-told
 enum-told c = search needs
 
--- src/homes.rt:29:1
 returns : tie.Need-returns
 unfolding isUpdate
 returns c = arm isUpdate kinds _ (kind-listed (c .before .args .o)) (0 ∷ 1 ∷ []) refl (c .match .keys1)
 
--- src/homes.rt:29:1
 returns-2 : tie.Need-returns-2
 unfolding isUpdate
 returns-2 c = rw (c .enum-told .given .1) refl

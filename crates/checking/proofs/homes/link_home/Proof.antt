@@ -6,20 +6,14 @@ use Rattle.sound.specs.Homes.{linkHome}
 use borrow.Author.Needs.{needs}
 use Rattle.checking.proofs.homes.link_home.Statement.{statement}
 use Rattle.checking.proofs.homes.link_home.Tie as tie
-use Rattle.checking.proofs.homes.link_home.Reads as reads
-use Rattle.checking.proofs.homes.link_home.Lts as lts
-use Rattle.checking.proofs.homes.is_delete.Reads as is-delete-reads
 
--- src/homes.rt:54:62
 is-delete-requires : tie.Need-is-delete-requires
 is-delete-requires c κs = search needs
 
--- src/homes.rt:49:1
 returns : tie.Need-returns
 unfolding linkHome
 returns c = arm (linkHome _) links _ (link-listed (c .before .args .a)) (0 ∷ 1 ∷ []) refl (c .match .keys1)
 
--- src/homes.rt:49:1
 returns-2 : tie.Need-returns-2
 unfolding linkHome
 returns-2 c = c .is-delete .ensures ∙ arm (linkHome _) links _ (link-listed (c .before .before .args .a)) (2 ∷ 3 ∷ 4 ∷ []) refl (c .before .match .keys2)

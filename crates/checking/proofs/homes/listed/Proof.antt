@@ -3,32 +3,24 @@ use Rattle.sound.specs.Homes.{listed}
 use borrow.Author.Needs.{needs}
 use Rattle.checking.proofs.homes.listed.Statement.{statement}
 use Rattle.checking.proofs.homes.listed.Tie as tie
-use Rattle.checking.proofs.homes.listed.Reads as reads
-use Rattle.checking.proofs.homes.listed.Lts as lts
 
--- src/homes.rt:43:25
 enum-told : tie.Need-enum-told
 enum-told c = search needs
 
--- src/homes.rt:44:25
 enum-told-2 : tie.Need-enum-told-2
 enum-told-2 c = search needs
 
--- src/homes.rt:45:23
 enum-told-3 : tie.Need-enum-told-3
 enum-told-3 c = search needs
 
--- src/homes.rt:39:1
 returns : tie.Need-returns
 unfolding listed
 returns c = rw (c .enum-told .given .1) refl
 
--- src/homes.rt:39:1
 returns-2 : tie.Need-returns-2
 unfolding listed
 returns-2 c = rw (c .enum-told2 .given .1) refl
 
--- src/homes.rt:39:1
 returns-3 : tie.Need-returns-3
 unfolding listed
 returns-3 c = rw (c .enum-told3 .given .1) refl

@@ -6,38 +6,28 @@ use Rattle.sound.specs.Homes.{scanHome}
 use borrow.Author.Needs.{needs}
 use Rattle.checking.proofs.homes.scan_home.Statement.{statement}
 use Rattle.checking.proofs.homes.scan_home.Tie as tie
-use Rattle.checking.proofs.homes.scan_home.Reads as reads
-use Rattle.checking.proofs.homes.scan_home.Lts as lts
-use Rattle.checking.proofs.homes.is_node.Reads as is-node-reads
 
--- src/homes.rt:112:24
 enum-known-q : tie.Need-enum-known-q
 enum-known-q c = search needs
 
--- src/homes.rt:112:30
 is-node-requires : tie.Need-is-node-requires
 is-node-requires c κs = search needs
 
--- src/homes.rt:113:30
 enum-told : tie.Need-enum-told
 enum-told c = search needs
 
--- src/homes.rt:102:1
 returns : tie.Need-returns
 unfolding scanHome
 returns c = arm scanHome (places _) _ (place-listed (c .before .args .q)) (15 ∷ 16 ∷ 17 ∷ 18 ∷ 19 ∷ 20 ∷ []) refl (c .match .keys1)
 
--- src/homes.rt:102:1
 returns-2 : tie.Need-returns-2
 unfolding scanHome
 returns-2 c = rw (c .before .before .q .given .1) (c .is-node .ensures)
 
--- src/homes.rt:102:1
 returns-3 : tie.Need-returns-3
 unfolding scanHome
 returns-3 c = rw (c .enum-told .given .1) refl
 
--- src/homes.rt:102:1
 returns-4 : tie.Need-returns-4
 unfolding scanHome
 returns-4 c = arm scanHome (places _) _ (place-listed (c .before .args .q)) (0 ∷ 1 ∷ 3 ∷ 4 ∷ 5 ∷ 6 ∷ 7 ∷ 8 ∷ 9 ∷ 10 ∷ 11 ∷ 12 ∷ 13 ∷ []) refl (c .match .keys4)

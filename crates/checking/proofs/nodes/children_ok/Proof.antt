@@ -4,38 +4,26 @@ use Rattle.sound.specs.Sound.{childrenOk}
 use borrow.Author.Needs.{needs}
 use Rattle.checking.proofs.nodes.children_ok.Statement.{statement}
 use Rattle.checking.proofs.nodes.children_ok.Tie as tie
-use Rattle.checking.proofs.nodes.children_ok.Reads as reads
-use Rattle.checking.proofs.nodes.children_ok.Lts as lts
-use Rattle.checking.proofs.numbers.used_node.Reads as used-node-reads
-use Rattle.tables.proofs.child_at.Reads as child-at-reads
-use Rattle.tables.proofs.is_internal.Reads as is-internal-reads
 
--- src/nodes.rt:68:9
 child-at-requires : tie.Need-child-at-requires
 child-at-requires c κs = search needs
 
--- src/nodes.rt:69:9
 child-at-requires-2 : tie.Need-child-at-requires-2
 child-at-requires-2 c κs = search needs
 
--- src/nodes.rt:70:8
 is-internal-requires : tie.Need-is-internal-requires
 is-internal-requires c κs = search needs
 
--- src/nodes.rt:71:9
 used-node-requires : tie.Need-used-node-requires
 used-node-requires c κs = search needs
 
--- src/nodes.rt:71:30
 used-node-requires-2 : tie.Need-used-node-requires-2
 used-node-requires-2 c κs = search needs
 
--- src/nodes.rt:65:1
 returns : tie.Need-returns
 unfolding childrenOk pick
 returns c = rw (← c .before .before .before .before .before .child-at .ensures, ← c .before .before .before .before .child-at2 .ensures, ← c .before .before .before .is-internal .ensures, ← c .before .used-node .ensures, ← c .used-node2 .ensures, c .before .before .if1 .taken) refl
 
--- src/nodes.rt:65:1
 returns-2 : tie.Need-returns-2
 unfolding childrenOk pick
 returns-2 c = rw (← c .before .before .before .before .before .child-at .ensures, ← c .before .before .before .before .child-at2 .ensures, ← c .before .before .before .is-internal .ensures, c .before .before .if1 .left) refl

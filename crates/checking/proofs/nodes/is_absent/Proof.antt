@@ -3,23 +3,17 @@ use Rattle.sound.specs.Sound.{isAbsent}
 use borrow.Author.Needs.{needs}
 use Rattle.checking.proofs.nodes.is_absent.Statement.{statement}
 use Rattle.checking.proofs.nodes.is_absent.Tie as tie
-use Rattle.checking.proofs.nodes.is_absent.Reads as reads
-use Rattle.checking.proofs.nodes.is_absent.Lts as lts
 
--- src/nodes.rt:29:30
 enum-told : tie.Need-enum-told
 enum-told c = search needs
 
--- src/nodes.rt:30:29
 enum-told-2 : tie.Need-enum-told-2
 enum-told-2 c = search needs
 
--- src/nodes.rt:25:1
 returns : tie.Need-returns
 unfolding isAbsent
 returns c = rw (c .enum-told .given .1) refl
 
--- src/nodes.rt:25:1
 returns-2 : tie.Need-returns-2
 unfolding isAbsent
 returns-2 c = rw (c .enum-told2 .given .1) refl

@@ -5,9 +5,6 @@ use Rattle.laws.specs.Every.{stops, goes-on, ends}
 use Rattle.sound.specs.Sound.{nodeOk}
 use Rattle.checking.proofs.nodes.nodes_ok.Statement.{statement}
 use Rattle.checking.proofs.nodes.nodes_ok.Tie as tie
-use Rattle.checking.proofs.nodes.nodes_ok.Reads as reads
-use Rattle.checking.proofs.nodes.nodes_ok.Lts as lts
-use Rattle.checking.proofs.nodes.node_ok.Reads as node-ok-reads
 
 abbrev Inv-loop : tie.InvT-loop
 Inv-loop t ns n₀ n = every n (nodeOk t ns) ≡ every (t .nodes) (nodeOk t ns)
@@ -15,31 +12,24 @@ Inv-loop t ns n₀ n = every n (nodeOk t ns) ≡ every (t .nodes) (nodeOk t ns)
 abbrev μ-loop : tie.MeasureT-loop
 μ-loop t ns n₀ n = n
 
--- src/nodes.rt:94:5
 loop-holds : tie.Need-loop-holds Inv-loop μ-loop
 loop-holds c = refl
 
--- src/nodes.rt:95:9
 sub-n : tie.Need-sub-n Inv-loop μ-loop
 sub-n c = search needs
 
--- src/nodes.rt:96:13
 node-ok-requires : tie.Need-node-ok-requires Inv-loop μ-loop
 node-ok-requires c κs = search needs
 
--- src/nodes.rt:97:13
 returns : tie.Need-returns Inv-loop μ-loop
 returns c = stops (nodeOk _ _) (c .before .before .before .loop .n) (c .before .before .before .loop .inv) (search needs) (c .before .node-ok .ensures) (c .if1 .taken)
 
--- src/nodes.rt:94:5
 loop-less : tie.Need-loop-less Inv-loop μ-loop
 loop-less c = search needs
 
--- src/nodes.rt:94:5
 loop-again : tie.Need-loop-again Inv-loop μ-loop
 loop-again c = goes-on (nodeOk _ _) (c .before .before .before .loop .n) (c .before .before .before .loop .inv) (search needs) (c .before .node-ok .ensures) (c .if1 .left)
 
--- src/nodes.rt:90:1
 returns-2 : tie.Need-returns-2 Inv-loop μ-loop
 returns-2 c = ends (nodeOk _ _) (c .before .loop .n) (c .before .loop .inv) (search needs)
 

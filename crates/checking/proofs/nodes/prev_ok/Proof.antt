@@ -3,23 +3,17 @@ use Rattle.sound.specs.Sound.{prevOk}
 use borrow.Author.Needs.{needs}
 use Rattle.checking.proofs.nodes.prev_ok.Statement.{statement}
 use Rattle.checking.proofs.nodes.prev_ok.Tie as tie
-use Rattle.checking.proofs.nodes.prev_ok.Reads as reads
-use Rattle.checking.proofs.nodes.prev_ok.Lts as lts
 
--- src/nodes.rt:59:30
 enum-told : tie.Need-enum-told
 enum-told c = search needs
 
--- src/nodes.rt:60:23
 enum-known-m : tie.Need-enum-known-m
 enum-known-m c = search needs
 
--- src/nodes.rt:55:1
 returns : tie.Need-returns
 unfolding prevOk
 returns c = rw (c .enum-told .given .1) refl
 
--- src/nodes.rt:55:1
 returns-2 : tie.Need-returns-2
 unfolding prevOk
 returns-2 c = rw (c .before .before .m .given .1) refl

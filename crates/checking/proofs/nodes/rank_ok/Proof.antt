@@ -2,10 +2,7 @@ use mathlib.Core.Path.{refl}
 use Rattle.sound.specs.Sound.{rankOk}
 use Rattle.checking.proofs.nodes.rank_ok.Statement.{statement}
 use Rattle.checking.proofs.nodes.rank_ok.Tie as tie
-use Rattle.checking.proofs.nodes.rank_ok.Reads as reads
-use Rattle.checking.proofs.nodes.rank_ok.Lts as lts
 
--- src/nodes.rt:48:1
 returns : tie.Need-returns
 unfolding rankOk
 returns c = refl

@@ -2,10 +2,7 @@ use mathlib.Core.Path.{refl}
 use Rattle.sound.specs.Sound.{phaseOk}
 use Rattle.checking.proofs.numbers.phase_ok.Statement.{statement}
 use Rattle.checking.proofs.numbers.phase_ok.Tie as tie
-use Rattle.checking.proofs.numbers.phase_ok.Reads as reads
-use Rattle.checking.proofs.numbers.phase_ok.Lts as lts
 
--- src/numbers.rt:46:1
 returns : tie.Need-returns
 unfolding phaseOk
 returns c = refl

@@ -3,28 +3,20 @@ use Rattle.sound.specs.Sound.{usedMaybe}
 use borrow.Author.Needs.{needs}
 use Rattle.checking.proofs.numbers.used_maybe.Statement.{statement}
 use Rattle.checking.proofs.numbers.used_maybe.Tie as tie
-use Rattle.checking.proofs.numbers.used_maybe.Reads as reads
-use Rattle.checking.proofs.numbers.used_maybe.Lts as lts
-use Rattle.checking.proofs.numbers.used_node.Reads as used-node-reads
 
--- src/numbers.rt:29:30
 enum-told : tie.Need-enum-told
 enum-told c = search needs
 
--- src/numbers.rt:30:23
 enum-known-m : tie.Need-enum-known-m
 enum-known-m c = search needs
 
--- src/numbers.rt:30:29
 used-node-requires : tie.Need-used-node-requires
 used-node-requires c κs = search needs
 
--- src/numbers.rt:25:1
 returns : tie.Need-returns
 unfolding usedMaybe
 returns c = rw (c .enum-told .given .1) refl
 
--- src/numbers.rt:25:1
 returns-2 : tie.Need-returns-2
 unfolding usedMaybe
 returns-2 c = rw (c .before .before .m .given .1) (c .used-node .ensures)

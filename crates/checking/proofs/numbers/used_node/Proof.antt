@@ -2,10 +2,7 @@ use mathlib.Core.Path.{refl}
 use Rattle.sound.specs.Sound.{usedNode}
 use Rattle.checking.proofs.numbers.used_node.Statement.{statement}
 use Rattle.checking.proofs.numbers.used_node.Tie as tie
-use Rattle.checking.proofs.numbers.used_node.Reads as reads
-use Rattle.checking.proofs.numbers.used_node.Lts as lts
 
--- src/numbers.rt:19:1
 returns : tie.Need-returns
 unfolding usedNode
 returns c = refl

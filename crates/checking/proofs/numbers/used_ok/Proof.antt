@@ -4,19 +4,13 @@ use Rattle.sound.specs.Sound.{usedOk}
 use borrow.Author.Needs.{needs}
 use Rattle.checking.proofs.numbers.used_ok.Statement.{statement}
 use Rattle.checking.proofs.numbers.used_ok.Tie as tie
-use Rattle.checking.proofs.numbers.used_ok.Reads as reads
-use Rattle.checking.proofs.numbers.used_ok.Lts as lts
-use Rattle.checking.proofs.sizes.between.Reads as between-reads
 
--- src/numbers.rt:55:5
 between-requires : tie.Need-between-requires
 between-requires c κs = search needs
 
--- src/numbers.rt:56:11
 between-requires-2 : tie.Need-between-requires-2
 between-requires-2 c κs = search needs
 
--- src/numbers.rt:52:1
 returns : tie.Need-returns
 unfolding usedOk joined
 returns c = rw (c .before .between2 .ensures, c .before .before .between .ensures) (sym (all-joined _ _))

@@ -2,10 +2,7 @@ use mathlib.Core.Path.{refl}
 use Rattle.sound.specs.Sound.{usedRecord}
 use Rattle.checking.proofs.numbers.used_record.Statement.{statement}
 use Rattle.checking.proofs.numbers.used_record.Tie as tie
-use Rattle.checking.proofs.numbers.used_record.Reads as reads
-use Rattle.checking.proofs.numbers.used_record.Lts as lts
 
--- src/numbers.rt:34:1
 returns : tie.Need-returns
 unfolding usedRecord
 returns c = refl

@@ -2,15 +2,10 @@ use Rattle.sound.specs.Sound.{countOk}
 use borrow.Author.Needs.{needs}
 use Rattle.checking.proofs.records.count_ok.Statement.{statement}
 use Rattle.checking.proofs.records.count_ok.Tie as tie
-use Rattle.checking.proofs.records.count_ok.Reads as reads
-use Rattle.checking.proofs.records.count_ok.Lts as lts
-use Rattle.tables.proofs.is_internal.Reads as is-internal-reads
 
--- src/records.rt:67:41
 is-internal-requires : tie.Need-is-internal-requires
 is-internal-requires c κs = search needs
 
--- src/records.rt:64:1
 returns : tie.Need-returns
 unfolding countOk
 returns c = rw (c .is-internal .ensures)

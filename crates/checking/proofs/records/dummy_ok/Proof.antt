@@ -10,9 +10,6 @@ use Rattle.tables.specs.Records.{recordWord, recordRow, aborted, unfilled, reco
 use Rattle.sound.specs.Sound.{dummyOk}
 use Rattle.checking.proofs.records.dummy_ok.Statement.{statement}
 use Rattle.checking.proofs.records.dummy_ok.Tie as tie
-use Rattle.checking.proofs.records.dummy_ok.Reads as reads
-use Rattle.checking.proofs.records.dummy_ok.Lts as lts
-use Rattle.checking.proofs.records.dummy_word_ok.Reads as dummy-word-ok-reads
 
 abbrev Inv-loop : tie.InvT-loop
 Inv-loop rs f₀ f = every f (λ g. eqb (recordWord rs dummy g) (getD (recordRow aborted unfilled) g 0)) ≡ dummyOk rs
@@ -20,32 +17,25 @@ Inv-loop rs f₀ f = every f (λ g. eqb (recordWord rs dummy g) (getD (recordRow
 abbrev μ-loop : tie.MeasureT-loop
 μ-loop rs f₀ f = f
 
--- src/records.rt:54:5
 loop-holds : tie.Need-loop-holds Inv-loop μ-loop
 unfolding dummyOk
 loop-holds c = refl
 
--- src/records.rt:55:9
 sub-f : tie.Need-sub-f Inv-loop μ-loop
 sub-f c = search needs
 
--- src/records.rt:56:13
 dummy-word-ok-requires : tie.Need-dummy-word-ok-requires Inv-loop μ-loop
 dummy-word-ok-requires c κs = search needs
 
--- src/records.rt:57:13
 returns : tie.Need-returns Inv-loop μ-loop
 returns c = stops _ (c .before .before .before .loop .f) (c .before .before .before .loop .inv) (search needs) (c .before .dummy-word-ok .ensures) (c .if1 .taken)
 
--- src/records.rt:54:5
 loop-less : tie.Need-loop-less Inv-loop μ-loop
 loop-less c = search needs
 
--- src/records.rt:54:5
 loop-again : tie.Need-loop-again Inv-loop μ-loop
 loop-again c = goes-on _ (c .before .before .before .loop .f) (c .before .before .before .loop .inv) (search needs) (c .before .dummy-word-ok .ensures) (c .if1 .left)
 
--- src/records.rt:50:1
 returns-2 : tie.Need-returns-2 Inv-loop μ-loop
 returns-2 c = ends _ (c .before .loop .f) (c .before .loop .inv) (search needs)
 

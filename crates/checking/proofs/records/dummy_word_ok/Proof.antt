@@ -6,20 +6,14 @@ use Rattle.tables.specs.Records.{recordRow, entryRow}
 use borrow.Author.Needs.{needs}
 use Rattle.checking.proofs.records.dummy_word_ok.Statement.{statement}
 use Rattle.checking.proofs.records.dummy_word_ok.Tie as tie
-use Rattle.checking.proofs.records.dummy_word_ok.Reads as reads
-use Rattle.checking.proofs.records.dummy_word_ok.Lts as lts
-use Rattle.tables.proofs.get.Reads as get-reads
 
--- src/records.rt:41:9
 get-requires : tie.Need-get-requires
 get-requires c κs = search needs
 
--- src/records.rt:38:1
 returns : tie.Need-returns
 unfolding recordRow entryRow word
 returns c = rw (c .before .get .ensures, c .if1 .taken) refl
 
--- src/records.rt:38:1
 returns-2 : tie.Need-returns-2
 unfolding word
 returns-2 c = rw (c .before .get .ensures, zero-add, dummy-else _ (c .if1 .left)) refl

@@ -9,10 +9,6 @@ use Rattle.tables.specs.Records.{entryAt}
 use Rattle.sound.specs.Sound.{entryOk}
 use Rattle.checking.proofs.records.entries_ok.Statement.{statement}
 use Rattle.checking.proofs.records.entries_ok.Tie as tie
-use Rattle.checking.proofs.records.entries_ok.Reads as reads
-use Rattle.checking.proofs.records.entries_ok.Lts as lts
-use Rattle.checking.proofs.records.entry_ok.Reads as entry-ok-reads
-use Rattle.tables.proofs.entry_at.Reads as entry-at-reads
 
 abbrev Inv-loop : tie.InvT-loop
 Inv-loop t rs r count i₀ i = every i (λ j. entryOk t (entryAt rs r (suc j))) ≡ every count (λ j. entryOk t (entryAt rs r (suc j)))
@@ -20,35 +16,27 @@ Inv-loop t rs r count i₀ i = every i (λ j. entryOk t (entryAt rs r (suc j))) 
 abbrev μ-loop : tie.MeasureT-loop
 μ-loop t rs r count i₀ i = i
 
--- src/records.rt:75:5
 loop-holds : tie.Need-loop-holds Inv-loop μ-loop
 loop-holds c = refl
 
--- src/records.rt:76:25
 entry-at-requires : tie.Need-entry-at-requires Inv-loop μ-loop
 entry-at-requires c κs = search needs
 
--- src/records.rt:76:13
 entry-ok-requires : tie.Need-entry-ok-requires Inv-loop μ-loop
 entry-ok-requires c κs = search needs
 
--- src/records.rt:77:13
 returns : tie.Need-returns Inv-loop μ-loop
 returns c = let e : c .before .before .before .before .loop .i ≡ suc (c .before .before .before .before .loop .i - 1) = omega arith in stops _ (c .before .before .before .before .loop .i) (c .before .before .before .before .loop .inv) (search needs) (rw (c .before .before .entry-at .ensures, e) at (c .before .entry-ok .ensures)) (c .if1 .taken)
 
--- src/records.rt:79:9
 sub-i : tie.Need-sub-i Inv-loop μ-loop
 sub-i c = search needs
 
--- src/records.rt:75:5
 loop-less : tie.Need-loop-less Inv-loop μ-loop
 loop-less c = search needs
 
--- src/records.rt:75:5
 loop-again : tie.Need-loop-again Inv-loop μ-loop
 loop-again c = let e : c .before .before .before .before .loop .i ≡ suc (c .before .before .before .before .loop .i - 1) = omega arith in goes-on _ (c .before .before .before .before .loop .i) (c .before .before .before .before .loop .inv) (search needs) (rw (c .before .before .entry-at .ensures, e) at (c .before .entry-ok .ensures)) (c .if1 .left)
 
--- src/records.rt:71:1
 returns-2 : tie.Need-returns-2 Inv-loop μ-loop
 returns-2 c = ends _ (c .before .loop .i) (c .before .loop .inv) (search needs)
 

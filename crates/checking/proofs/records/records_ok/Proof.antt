@@ -8,9 +8,6 @@ use Rattle.tables.specs.World.{tables}
 use Rattle.sound.specs.Sound.{recordOk}
 use Rattle.checking.proofs.records.records_ok.Statement.{statement}
 use Rattle.checking.proofs.records.records_ok.Tie as tie
-use Rattle.checking.proofs.records.records_ok.Reads as reads
-use Rattle.checking.proofs.records.records_ok.Lts as lts
-use Rattle.checking.proofs.records.record_ok.Reads as record-ok-reads
 
 abbrev Inv-loop : tie.InvT-loop
 Inv-loop t ns rs n₀ n = every (n - 1) (λ i. recordOk (tables t ns rs) (suc i)) ≡ every (t .records - 1) (λ i. recordOk (tables t ns rs) (suc i))
@@ -18,31 +15,24 @@ Inv-loop t ns rs n₀ n = every (n - 1) (λ i. recordOk (tables t ns rs) (suc i)
 abbrev μ-loop : tie.MeasureT-loop
 μ-loop t ns rs n₀ n = n
 
--- src/records.rt:105:5
 loop-holds : tie.Need-loop-holds Inv-loop μ-loop
 loop-holds c = refl
 
--- src/records.rt:106:9
 sub-n : tie.Need-sub-n Inv-loop μ-loop
 sub-n c = search needs
 
--- src/records.rt:107:13
 record-ok-requires : tie.Need-record-ok-requires Inv-loop μ-loop
 record-ok-requires c κs = search needs
 
--- src/records.rt:108:13
 returns : tie.Need-returns Inv-loop μ-loop
 returns c = let e : c .before .before .before .loop .n - 1 ≡ suc (c .before .before .before .loop .n - 1 - 1) = omega arith in stops _ (c .before .before .before .loop .n - 1) (c .before .before .before .loop .inv) (search needs) (rw e at (c .before .record-ok .ensures)) (c .if1 .taken)
 
--- src/records.rt:105:5
 loop-less : tie.Need-loop-less Inv-loop μ-loop
 loop-less c = search needs
 
--- src/records.rt:105:5
 loop-again : tie.Need-loop-again Inv-loop μ-loop
 loop-again c = let e : c .before .before .before .loop .n - 1 ≡ suc (c .before .before .before .loop .n - 1 - 1) = omega arith in goes-on _ (c .before .before .before .loop .n - 1) (c .before .before .before .loop .inv) (search needs) (rw e at (c .before .record-ok .ensures)) (c .if1 .left)
 
--- src/records.rt:101:1
 returns-2 : tie.Need-returns-2 Inv-loop μ-loop
 returns-2 c = ends _ (c .before .loop .n - 1) (c .before .loop .inv) (search needs)
 

@@ -1,3 +1,7 @@
+use mathlib.Core.Path.{refl}
+use Rattle.laws.specs.Every.{joined, all-joined}
+use Rattle.tables.specs.World.{workerAt, pendingAt}
+use Rattle.sound.specs.Sound.{listsOk}
 use borrow.Author.Needs.{needs}
 use Rattle.checking.proofs.workers.lists_ok.Statement.{statement}
 use Rattle.checking.proofs.workers.lists_ok.Tie as tie
@@ -6,21 +10,23 @@ use Rattle.checking.proofs.workers.lists_ok.Lts as lts
 use Rattle.checking.proofs.workers.pending_ok.Reads as pending-ok-reads
 use Rattle.checking.proofs.workers.worker_at.Reads as worker-at-reads
 
--- src/workers.rt:186:9
+-- src/workers.rt:160:9
 worker-at-requires : tie.Need-worker-at-requires
 worker-at-requires c κs = search needs
 
--- src/workers.rt:187:46
+-- src/workers.rt:161:46
 pending-ok-requires : tie.Need-pending-ok-requires
 pending-ok-requires c κs = search needs
 
--- src/workers.rt:182:1
+-- src/workers.rt:155:1
 returns : tie.Need-returns
-returns c = ?
+unfolding listsOk workerAt pendingAt joined
+returns c = λ ns rs fs. rw (all-joined, ← c .before .before .before .before .before .before .worker-at .ensures, ← c .pending-ok .ensures, c .before .if1 .taken) refl
 
--- src/workers.rt:182:1
+-- src/workers.rt:155:1
 returns-2 : tie.Need-returns-2
-returns-2 c = ?
+unfolding listsOk workerAt pendingAt joined
+returns-2 c = λ ns rs fs. rw (all-joined, ← c .before .before .before .before .before .worker-at .ensures, c .if1 .left) refl
 
 pub lists-ok-spec : {M : Type 1} → statement M
 lists-ok-spec = tie.close (tie.spec worker-at-requires pending-ok-requires returns returns-2)

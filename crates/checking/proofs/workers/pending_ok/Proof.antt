@@ -1,42 +1,40 @@
+use mathlib.Core.Path.{_≡_, refl}
+use borrow.Author.Needs.{needs}
+use lib.ListN.{getD}
+use Rattle.laws.specs.Tests.{every}
+use Rattle.laws.specs.Every.{stops, goes-on, ends}
+use Rattle.tables.specs.Names.{node}
+use Rattle.tables.specs.World.{spot}
+use Rattle.sound.specs.Sound.{usedNode}
 use Rattle.checking.proofs.workers.pending_ok.Statement.{statement}
 use Rattle.checking.proofs.workers.pending_ok.Tie as tie
-use Rattle.checking.proofs.workers.pending_ok.Reads as reads
-use Rattle.checking.proofs.workers.pending_ok.Lts as lts
-use Rattle.checking.proofs.workers.pending_node_ok.Reads as pending-node-ok-reads
 
 abbrev Inv-loop : tie.InvT-loop
-Inv-loop t pending w count i₀ i = ?
+Inv-loop t pending w count i₀ i = every i (λ j. usedNode t (node (getD pending (spot t w j) 0))) ≡ every count (λ j. usedNode t (node (getD pending (spot t w j) 0)))
 
 abbrev μ-loop : tie.MeasureT-loop
-μ-loop t pending w count i₀ i = ?
+μ-loop t pending w count i₀ i = i
 
--- src/workers.rt:136:5
 loop-holds : tie.Need-loop-holds Inv-loop μ-loop
-loop-holds c = ?
+loop-holds c = refl
 
--- src/workers.rt:137:9
 sub-i : tie.Need-sub-i Inv-loop μ-loop
-sub-i c = ?
+sub-i c = search needs
 
--- src/workers.rt:138:13
 pending-node-ok-requires : tie.Need-pending-node-ok-requires Inv-loop μ-loop
-pending-node-ok-requires c κs = ?
+pending-node-ok-requires c κs = search needs
 
--- src/workers.rt:139:13
 returns : tie.Need-returns Inv-loop μ-loop
-returns c = ?
+returns c = stops _ (c .before .before .before .loop .i) (c .before .before .before .loop .inv) (search needs) (c .before .pending-node-ok .ensures) (c .if1 .taken)
 
--- src/workers.rt:136:5
 loop-less : tie.Need-loop-less Inv-loop μ-loop
-loop-less c = ?
+loop-less c = search needs
 
--- src/workers.rt:136:5
 loop-again : tie.Need-loop-again Inv-loop μ-loop
-loop-again c = ?
+loop-again c = goes-on _ (c .before .before .before .loop .i) (c .before .before .before .loop .inv) (search needs) (c .before .pending-node-ok .ensures) (c .if1 .left)
 
--- src/workers.rt:132:1
 returns-2 : tie.Need-returns-2 Inv-loop μ-loop
-returns-2 c = ?
+returns-2 c = ends _ (c .before .loop .i) (c .before .loop .inv) (search needs)
 
 pub pending-ok-spec : {M : Type 1} → statement M
 pending-ok-spec =

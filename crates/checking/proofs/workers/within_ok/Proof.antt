@@ -1,50 +1,46 @@
+use mathlib.Core.Path.{refl, _∙_}
+use mathlib.Core.List.{[], _∷_}
+use Rattle.laws.specs.Arms.{arm}
+use Rattle.shapes.proofs.Variants.{places, place-listed}
+use Rattle.sound.specs.Sound.{withinOk}
 use borrow.Author.Needs.{needs}
 use Rattle.checking.proofs.workers.within_ok.Statement.{statement}
 use Rattle.checking.proofs.workers.within_ok.Tie as tie
-use Rattle.checking.proofs.workers.within_ok.Reads as reads
-use Rattle.checking.proofs.workers.within_ok.Lts as lts
-use Rattle.checking.proofs.sizes.between.Reads as between-reads
-use Rattle.checking.proofs.workers.help_within.Reads as help-within-reads
 
--- src/workers.rt:79:45
 between-requires : tie.Need-between-requires
 between-requires c κs = search needs
 
--- src/workers.rt:80:21
 enum-known-q : tie.Need-enum-known-q
 enum-known-q c = search needs
 
--- src/workers.rt:80:30
 help-within-requires : tie.Need-help-within-requires
 help-within-requires c κs = search needs
 
--- src/workers.rt:81:27
 enum-told : tie.Need-enum-told
 enum-told c = search needs
 
--- src/workers.rt:82:30
 enum-told-2 : tie.Need-enum-told-2
 enum-told-2 c = search needs
 
--- src/workers.rt:75:1
 returns : tie.Need-returns
-returns c = ?
+unfolding withinOk
+returns c = c .between .ensures ∙ arm (withinOk _ _ _ _) (places _) _ (place-listed (c .before .before .before .args .q)) (11 ∷ 12 ∷ []) refl (c .before .match .keys1)
 
--- src/workers.rt:75:1
 returns-2 : tie.Need-returns-2
-returns-2 c = ?
+unfolding withinOk
+returns-2 c = rw (c .before .before .q .given .1) (c .help-within .ensures)
 
--- src/workers.rt:75:1
 returns-3 : tie.Need-returns-3
-returns-3 c = ?
+unfolding withinOk
+returns-3 c = rw (c .enum-told .given .1) refl
 
--- src/workers.rt:75:1
 returns-4 : tie.Need-returns-4
-returns-4 c = ?
+unfolding withinOk
+returns-4 c = rw (c .enum-told2 .given .1) refl
 
--- src/workers.rt:75:1
 returns-5 : tie.Need-returns-5
-returns-5 c = ?
+unfolding withinOk
+returns-5 c = arm (withinOk _ _ _ _) (places _) _ (place-listed (c .before .before .args .q)) (0 ∷ 1 ∷ 3 ∷ 4 ∷ 5 ∷ 6 ∷ 7 ∷ 8 ∷ 9 ∷ 10 ∷ 13 ∷ 15 ∷ 16 ∷ 17 ∷ 18 ∷ 19 ∷ []) refl (c .match .keys5)
 
 pub within-ok-spec : {M : Type 1} → statement M
 within-ok-spec =

@@ -1,24 +1,34 @@
+use mathlib.Core.Path.{_≡_, sym, _∙_}
+use Prim.Native.Nat.{_≤_}
+use native.Mathlib.Omega.{arith}
+use lib.ListN.{length, List·getD-eq-default}
 use borrow.Author.Needs.{needs}
 use Rattle.checking.proofs.workers.worker_at.Statement.{statement}
 use Rattle.checking.proofs.workers.worker_at.Tie as tie
 use Rattle.checking.proofs.workers.worker_at.Reads as reads
 use Rattle.checking.proofs.workers.worker_at.Lts as lts
+use Rattle.tables.proofs.idle.Reads as idle-reads
 
--- src/workers.rt:151:16
+-- src/workers.rt:148:9
 mul-result : tie.Need-mul-result
 mul-result c = search needs
 
--- src/workers.rt:151:16
-element-copy-out-result : tie.Need-element-copy-out-result
-element-copy-out-result c = search needs
+-- src/workers.rt:148:9
+array-copy-out-result : tie.Need-array-copy-out-result
+array-copy-out-result c = search needs
 
--- src/workers.rt:151:9
+-- src/workers.rt:150:9
+idle-requires : tie.Need-idle-requires
+idle-requires c κs = search needs
+
+-- src/workers.rt:143:1
 returns : tie.Need-returns
 returns c = search needs
 
--- src/workers.rt:146:1
+-- src/workers.rt:143:1
 returns-2 : tie.Need-returns-2
-returns-2 c = ?
+returns-2 c = let h : length (c .before .before .args .workers) ≤ c .before .before .args .w = omega (arith, c .before .before .good) in c .idle .ensures ∙ sym (List·getD-eq-default _ _ h)
 
 pub worker-at-spec : {M : Type 1} → statement M
-worker-at-spec = tie.close (tie.spec mul-result element-copy-out-result returns returns-2)
+worker-at-spec =
+    tie.close (tie.spec mul-result array-copy-out-result idle-requires returns returns-2)

@@ -1,3 +1,7 @@
+use mathlib.Core.Path.{refl}
+use Rattle.laws.specs.Every.{joined, all-joined}
+use Rattle.tables.specs.World.{workerAt}
+use Rattle.sound.specs.Sound.{workerOk}
 use borrow.Author.Needs.{needs}
 use Rattle.checking.proofs.workers.worker_ok.Statement.{statement}
 use Rattle.checking.proofs.workers.worker_ok.Tie as tie
@@ -8,25 +12,26 @@ use Rattle.checking.proofs.workers.hand_ok.Reads as hand-ok-reads
 use Rattle.checking.proofs.workers.lists_ok.Reads as lists-ok-reads
 use Rattle.checking.proofs.workers.worker_at.Reads as worker-at-reads
 
--- src/workers.rt:193:9
+-- src/workers.rt:168:9
 worker-at-requires : tie.Need-worker-at-requires
 worker-at-requires c κs = search needs
 
--- src/workers.rt:196:5
+-- src/workers.rt:171:5
 lists-ok-requires : tie.Need-lists-ok-requires
 lists-ok-requires c κs = search needs
 
--- src/workers.rt:197:11
+-- src/workers.rt:172:11
 hand-ok-requires : tie.Need-hand-ok-requires
 hand-ok-requires c κs = search needs
 
--- src/workers.rt:198:11
+-- src/workers.rt:173:11
 condition-ok-requires : tie.Need-condition-ok-requires
 condition-ok-requires c κs = search needs
 
--- src/workers.rt:190:1
+-- src/workers.rt:164:1
 returns : tie.Need-returns
-returns c = ?
+unfolding workerOk workerAt joined
+returns c = λ ns fs. rw (all-joined, ← c .before .before .lists-ok .ensures ns _ fs, ← c .before .before .before .before .worker-at .ensures, ← c .before .hand-ok .ensures, ← c .condition-ok .ensures) refl
 
 pub worker-ok-spec : {M : Type 1} → statement M
 worker-ok-spec =
