@@ -27,7 +27,7 @@ returns c = search needs
 
 -- src/workers.rt:143:1
 returns-2 : tie.Need-returns-2
-returns-2 c = let h : length (c .before .before .args .workers) ≤ c .before .before .args .w = omega (arith, c .before .before .good) in c .idle .ensures ∙ sym (List·getD-eq-default _ _ h)
+returns-2 c = let h : length (c .before .before .args .t1) ≤ c .before .before .args .w = omega (arith, c .before .before .good) in c .idle .ensures ∙ sym (List·getD-eq-default (c .before .before .args .t1) _ h)
 
 pub worker-at-spec : {M : Type 1} → statement M
 worker-at-spec =
