@@ -1,16 +1,13 @@
 // The code that tells sound tables from spoiled ones.
-mod numbers; // numbers that refer to used ones
-mod nodes; // a node, all nodes, the Root
-mod records; // a record, all records, the dummy
 mod homes; // which places are whose
 mod workers; // a worker, all workers
 
-use crate::nodes::nodes_ok;
-use crate::nodes::root_ok;
-use crate::numbers::used_ok;
-use crate::records::dummy_ok;
-use crate::records::records_ok;
 use crate::workers::workers_ok;
+use rows::dummy_ok;
+use rows::nodes_ok;
+use rows::records_ok;
+use rows::root_ok;
+use rows::used_ok;
 use shapes::Board;
 use tables::lent_ok;
 use tables::sizes_ok;

@@ -5,25 +5,17 @@ use Rattle.sound.specs.Sound.{listsOk}
 use borrow.Author.Needs.{needs}
 use Rattle.checking.proofs.workers.lists_ok.Statement.{statement}
 use Rattle.checking.proofs.workers.lists_ok.Tie as tie
-use Rattle.checking.proofs.workers.lists_ok.Reads as reads
-use Rattle.checking.proofs.workers.lists_ok.Lts as lts
-use Rattle.checking.proofs.workers.pending_ok.Reads as pending-ok-reads
-use Rattle.checking.proofs.workers.worker_at.Reads as worker-at-reads
 
--- src/workers.rt:160:9
 worker-at-requires : tie.Need-worker-at-requires
 worker-at-requires c κs = search needs
 
--- src/workers.rt:161:46
 pending-ok-requires : tie.Need-pending-ok-requires
 pending-ok-requires c κs = search needs
 
--- src/workers.rt:155:1
 returns : tie.Need-returns
 unfolding listsOk workerAt pendingAt joined
 returns c = λ ns rs fs. rw (all-joined, ← c .before .before .before .before .before .before .worker-at .ensures, ← c .pending-ok .ensures, c .before .if1 .taken) refl
 
--- src/workers.rt:155:1
 returns-2 : tie.Need-returns-2
 unfolding listsOk workerAt pendingAt joined
 returns-2 c = λ ns rs fs. rw (all-joined, ← c .before .before .before .before .before .worker-at .ensures, c .if1 .left) refl

@@ -5,27 +5,19 @@ use lib.ListN.{length, List·getD-eq-default}
 use borrow.Author.Needs.{needs}
 use Rattle.checking.proofs.workers.worker_at.Statement.{statement}
 use Rattle.checking.proofs.workers.worker_at.Tie as tie
-use Rattle.checking.proofs.workers.worker_at.Reads as reads
-use Rattle.checking.proofs.workers.worker_at.Lts as lts
-use Rattle.tables.proofs.idle.Reads as idle-reads
 
--- src/workers.rt:148:9
 mul-result : tie.Need-mul-result
 mul-result c = search needs
 
--- src/workers.rt:148:9
 array-copy-out-result : tie.Need-array-copy-out-result
 array-copy-out-result c = search needs
 
--- src/workers.rt:150:9
 idle-requires : tie.Need-idle-requires
 idle-requires c κs = search needs
 
--- src/workers.rt:143:1
 returns : tie.Need-returns
 returns c = search needs
 
--- src/workers.rt:143:1
 returns-2 : tie.Need-returns-2
 returns-2 c = let h : length (c .before .before .args .t1) ≤ c .before .before .args .w = omega (arith, c .before .before .good) in c .idle .ensures ∙ sym (List·getD-eq-default (c .before .before .args .t1) _ h)
 

@@ -5,30 +5,19 @@ use Rattle.sound.specs.Sound.{workerOk}
 use borrow.Author.Needs.{needs}
 use Rattle.checking.proofs.workers.worker_ok.Statement.{statement}
 use Rattle.checking.proofs.workers.worker_ok.Tie as tie
-use Rattle.checking.proofs.workers.worker_ok.Reads as reads
-use Rattle.checking.proofs.workers.worker_ok.Lts as lts
-use Rattle.checking.proofs.workers.condition_ok.Reads as condition-ok-reads
-use Rattle.checking.proofs.workers.hand_ok.Reads as hand-ok-reads
-use Rattle.checking.proofs.workers.lists_ok.Reads as lists-ok-reads
-use Rattle.checking.proofs.workers.worker_at.Reads as worker-at-reads
 
--- src/workers.rt:168:9
 worker-at-requires : tie.Need-worker-at-requires
 worker-at-requires c κs = search needs
 
--- src/workers.rt:171:5
 lists-ok-requires : tie.Need-lists-ok-requires
 lists-ok-requires c κs = search needs
 
--- src/workers.rt:172:11
 hand-ok-requires : tie.Need-hand-ok-requires
 hand-ok-requires c κs = search needs
 
--- src/workers.rt:173:11
 condition-ok-requires : tie.Need-condition-ok-requires
 condition-ok-requires c κs = search needs
 
--- src/workers.rt:164:1
 returns : tie.Need-returns
 unfolding workerOk workerAt joined
 returns c = λ ns fs. rw (all-joined, ← c .before .before .lists-ok .ensures ns _ fs, ← c .before .before .before .before .worker-at .ensures, ← c .before .hand-ok .ensures, ← c .condition-ok .ensures) refl

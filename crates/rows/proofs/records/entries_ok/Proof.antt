@@ -1,0 +1,56 @@
+use mathlib.Core.Path.{_≡_, refl, _∙_}
+use Prim.Native.Nat.{ℕ, suc, _-_}
+use mathlib.Core.Bool.{Bool}
+use native.Mathlib.Omega.{arith}
+use borrow.Author.Needs.{needs}
+use Rattle.laws.specs.Tests.{every}
+use Rattle.laws.specs.Every.{stops, goes-on, ends}
+use Rattle.tables.specs.Records.{entryAt}
+use Rattle.sound.specs.Sound.{entryOk}
+use Rattle.rows.proofs.records.entries_ok.Statement.{statement}
+use Rattle.rows.proofs.records.entries_ok.Tie as tie
+
+abbrev Inv-loop : tie.InvT-loop
+Inv-loop t rs r count i₀ i = every i (λ j. entryOk t (entryAt rs r (suc j))) ≡ every count (λ j. entryOk t (entryAt rs r (suc j)))
+
+abbrev μ-loop : tie.MeasureT-loop
+μ-loop t rs r count i₀ i = i
+
+loop-holds : tie.Need-loop-holds Inv-loop μ-loop
+loop-holds c = refl
+
+entry-at-requires : tie.Need-entry-at-requires Inv-loop μ-loop
+entry-at-requires c κs = search needs
+
+entry-ok-requires : tie.Need-entry-ok-requires Inv-loop μ-loop
+entry-ok-requires c κs = search needs
+
+returns : tie.Need-returns Inv-loop μ-loop
+returns c = let e : c .before .before .before .before .loop .i ≡ suc (c .before .before .before .before .loop .i - 1) = omega arith in stops _ (c .before .before .before .before .loop .i) (c .before .before .before .before .loop .inv) (search needs) (rw (c .before .before .entry-at .ensures, e) at (c .before .entry-ok .ensures)) (c .if1 .taken)
+
+sub-i : tie.Need-sub-i Inv-loop μ-loop
+sub-i c = search needs
+
+loop-less : tie.Need-loop-less Inv-loop μ-loop
+loop-less c = search needs
+
+loop-again : tie.Need-loop-again Inv-loop μ-loop
+loop-again c = let e : c .before .before .before .before .loop .i ≡ suc (c .before .before .before .before .loop .i - 1) = omega arith in goes-on _ (c .before .before .before .before .loop .i) (c .before .before .before .before .loop .inv) (search needs) (rw (c .before .before .entry-at .ensures, e) at (c .before .entry-ok .ensures)) (c .if1 .left)
+
+returns-2 : tie.Need-returns-2 Inv-loop μ-loop
+returns-2 c = ends _ (c .before .loop .i) (c .before .loop .inv) (search needs)
+
+pub entries-ok-spec : {M : Type 1} → statement M
+entries-ok-spec =
+    tie.close
+    (tie.spec
+    Inv-loop
+    μ-loop
+    loop-holds
+    entry-at-requires
+    entry-ok-requires
+    returns
+    sub-i
+    loop-less
+    loop-again
+    returns-2)
