@@ -1,3 +1,4 @@
+-- `is_sound` is `soundOf`: its tests joined (`all-joined`); the totals' tests decide whether rows are looked at.
 use mathlib.Core.Path.{refl}
 use borrow.Author.Needs.{needs}
 use Rattle.laws.specs.Every.{joined, all-joined}

@@ -1,9 +1,10 @@
+-- `attempt_home` is `attemptHome`, on each arm (`arm`), by what its callees say.
 use mathlib.Core.Path.{refl, _∙_}
 use mathlib.Core.List.{[], _∷_}
+use borrow.Author.Needs.{needs}
 use Rattle.laws.specs.Arms.{arm}
 use Rattle.shapes.proofs.Variants.{places, place-listed}
 use Rattle.sound.specs.Homes.{attemptHome}
-use borrow.Author.Needs.{needs}
 use Rattle.checking.proofs.homes.attempt_home.Statement.{statement}
 use Rattle.checking.proofs.homes.attempt_home.Tie as tie
 

@@ -1,6 +1,7 @@
+-- `back_home` is `backHome`, on each way of the match.
 use mathlib.Core.Path.{refl}
-use Rattle.sound.specs.Homes.{backHome}
 use borrow.Author.Needs.{needs}
+use Rattle.sound.specs.Homes.{backHome}
 use Rattle.checking.proofs.homes.back_home.Statement.{statement}
 use Rattle.checking.proofs.homes.back_home.Tie as tie
 

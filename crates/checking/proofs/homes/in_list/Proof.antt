@@ -1,3 +1,4 @@
+-- `in_list` is `inList`, on each arm (`arm`).
 use mathlib.Core.Path.{refl}
 use mathlib.Core.List.{[], _∷_}
 use Rattle.laws.specs.Arms.{arm}

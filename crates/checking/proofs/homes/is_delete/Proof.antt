@@ -1,9 +1,10 @@
+-- `is_delete` is `isDelete`, on each arm (`arm`).
 use mathlib.Core.Path.{refl}
 use mathlib.Core.List.{[], _∷_}
+use borrow.Author.Needs.{needs}
 use Rattle.laws.specs.Arms.{arm}
 use Rattle.shapes.proofs.Variants.{kinds, kind-listed}
 use Rattle.sound.specs.Homes.{isDelete}
-use borrow.Author.Needs.{needs}
 use Rattle.checking.proofs.homes.is_delete.Statement.{statement}
 use Rattle.checking.proofs.homes.is_delete.Tie as tie
 

@@ -1,9 +1,10 @@
+-- `is_insert` is `isInsert`, on each arm (`arm`).
 use mathlib.Core.Path.{refl}
 use mathlib.Core.List.{[], _∷_}
+use borrow.Author.Needs.{needs}
 use Rattle.laws.specs.Arms.{arm}
 use Rattle.shapes.proofs.Variants.{kinds, kind-listed}
 use Rattle.sound.specs.Homes.{isInsert}
-use borrow.Author.Needs.{needs}
 use Rattle.checking.proofs.homes.is_insert.Statement.{statement}
 use Rattle.checking.proofs.homes.is_insert.Tie as tie
 

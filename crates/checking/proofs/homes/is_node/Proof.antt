@@ -1,9 +1,10 @@
+-- `is_node` is `isNode`, on each arm (`arm`).
 use mathlib.Core.Path.{refl}
 use mathlib.Core.List.{[], _∷_}
+use borrow.Author.Needs.{needs}
 use Rattle.laws.specs.Arms.{arm}
 use Rattle.shapes.proofs.Variants.{backs, back-listed}
 use Rattle.sound.specs.Homes.{isNode}
-use borrow.Author.Needs.{needs}
 use Rattle.checking.proofs.homes.is_node.Statement.{statement}
 use Rattle.checking.proofs.homes.is_node.Tie as tie
 

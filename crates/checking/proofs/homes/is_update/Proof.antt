@@ -1,9 +1,10 @@
+-- `is_update` is `isUpdate`, on each arm (`arm`).
 use mathlib.Core.Path.{refl}
 use mathlib.Core.List.{[], _∷_}
+use borrow.Author.Needs.{needs}
 use Rattle.laws.specs.Arms.{arm}
 use Rattle.shapes.proofs.Variants.{kinds, kind-listed}
 use Rattle.sound.specs.Homes.{isUpdate}
-use borrow.Author.Needs.{needs}
 use Rattle.checking.proofs.homes.is_update.Statement.{statement}
 use Rattle.checking.proofs.homes.is_update.Tie as tie
 

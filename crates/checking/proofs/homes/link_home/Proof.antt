@@ -1,9 +1,10 @@
+-- `link_home` is `linkHome`, on each arm (`arm`).
 use mathlib.Core.Path.{refl, _∙_}
 use mathlib.Core.List.{[], _∷_}
+use borrow.Author.Needs.{needs}
 use Rattle.laws.specs.Arms.{arm}
 use Rattle.shapes.proofs.Variants.{links, link-listed}
 use Rattle.sound.specs.Homes.{linkHome}
-use borrow.Author.Needs.{needs}
 use Rattle.checking.proofs.homes.link_home.Statement.{statement}
 use Rattle.checking.proofs.homes.link_home.Tie as tie
 

@@ -1,6 +1,7 @@
+-- `listed` is `listed`, on each way of the match.
 use mathlib.Core.Path.{refl}
-use Rattle.sound.specs.Homes.{listed}
 use borrow.Author.Needs.{needs}
+use Rattle.sound.specs.Homes.{listed}
 use Rattle.checking.proofs.homes.listed.Statement.{statement}
 use Rattle.checking.proofs.homes.listed.Tie as tie
 

@@ -1,9 +1,10 @@
-use mathlib.Core.Path.{refl, _∙_}
+-- `scan_home` is `scanHome`, on each arm (`arm`).
+use mathlib.Core.Path.{refl}
 use mathlib.Core.List.{[], _∷_}
+use borrow.Author.Needs.{needs}
 use Rattle.laws.specs.Arms.{arm}
 use Rattle.shapes.proofs.Variants.{places, place-listed}
 use Rattle.sound.specs.Homes.{scanHome}
-use borrow.Author.Needs.{needs}
 use Rattle.checking.proofs.homes.scan_home.Statement.{statement}
 use Rattle.checking.proofs.homes.scan_home.Tie as tie
 

@@ -1,3 +1,4 @@
+-- `attempt_ok` is both tests of `conditionOk`, by what its callees say.
 use borrow.Author.Needs.{needs}
 use Rattle.checking.proofs.workers.attempt_ok.Statement.{statement}
 use Rattle.checking.proofs.workers.attempt_ok.Tie as tie

@@ -1,6 +1,7 @@
+-- `condition_ok` is `conditionOk`, on each way of the two matches.
 use mathlib.Core.Path.{refl}
-use Rattle.sound.specs.Sound.{conditionOk}
 use borrow.Author.Needs.{needs}
+use Rattle.sound.specs.Sound.{conditionOk}
 use Rattle.checking.proofs.workers.condition_ok.Statement.{statement}
 use Rattle.checking.proofs.workers.condition_ok.Tie as tie
 

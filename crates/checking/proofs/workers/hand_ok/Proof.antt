@@ -1,7 +1,8 @@
+-- `hand_ok` is `handOk`: its tests joined (`all-joined`).
 use mathlib.Core.Path.{sym}
+use borrow.Author.Needs.{needs}
 use Rattle.laws.specs.Every.{joined, all-joined}
 use Rattle.sound.specs.Sound.{handOk}
-use borrow.Author.Needs.{needs}
 use Rattle.checking.proofs.workers.hand_ok.Statement.{statement}
 use Rattle.checking.proofs.workers.hand_ok.Tie as tie
 

@@ -1,6 +1,7 @@
+-- `help_within` is what `withinOk` says of HELP: whether the step stands in a list chooses.
 use mathlib.Core.Path.{refl}
-use Rattle.laws.specs.Choice.{pick}
 use borrow.Author.Needs.{needs}
+use Rattle.laws.specs.Choice.{pick}
 use Rattle.checking.proofs.workers.help_within.Statement.{statement}
 use Rattle.checking.proofs.workers.help_within.Tie as tie
 

@@ -1,8 +1,9 @@
+-- `lists_ok` is `listsOk`: its tests joined (`all-joined`); the counts decide whether pending nodes are looked at.
 use mathlib.Core.Path.{refl}
+use borrow.Author.Needs.{needs}
 use Rattle.laws.specs.Every.{joined, all-joined}
 use Rattle.tables.specs.World.{workerAt, pendingAt}
 use Rattle.sound.specs.Sound.{listsOk}
-use borrow.Author.Needs.{needs}
 use Rattle.checking.proofs.workers.lists_ok.Statement.{statement}
 use Rattle.checking.proofs.workers.lists_ok.Tie as tie
 

@@ -1,6 +1,7 @@
+-- `pending_ok` is `every` pending node: those left to test say what all say (`Every`); they fall.
 use mathlib.Core.Path.{_≡_, refl}
-use borrow.Author.Needs.{needs}
 use lib.ListN.{getD}
+use borrow.Author.Needs.{needs}
 use Rattle.laws.specs.Tests.{every}
 use Rattle.laws.specs.Every.{stops, goes-on, ends}
 use Rattle.tables.specs.Names.{node}

@@ -1,9 +1,10 @@
+-- `within_ok` is `withinOk`, on each arm (`arm`), by what its callees say.
 use mathlib.Core.Path.{refl, _∙_}
 use mathlib.Core.List.{[], _∷_}
+use borrow.Author.Needs.{needs}
 use Rattle.laws.specs.Arms.{arm}
 use Rattle.shapes.proofs.Variants.{places, place-listed}
 use Rattle.sound.specs.Sound.{withinOk}
-use borrow.Author.Needs.{needs}
 use Rattle.checking.proofs.workers.within_ok.Statement.{statement}
 use Rattle.checking.proofs.workers.within_ok.Tie as tie
 

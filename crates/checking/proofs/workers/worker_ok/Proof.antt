@@ -1,8 +1,9 @@
+-- `worker_ok` is `workerOk`: its tests joined (`all-joined`), of the worker read.
 use mathlib.Core.Path.{refl}
+use borrow.Author.Needs.{needs}
 use Rattle.laws.specs.Every.{joined, all-joined}
 use Rattle.tables.specs.World.{workerAt}
 use Rattle.sound.specs.Sound.{workerOk}
-use borrow.Author.Needs.{needs}
 use Rattle.checking.proofs.workers.worker_ok.Statement.{statement}
 use Rattle.checking.proofs.workers.worker_ok.Tie as tie
 

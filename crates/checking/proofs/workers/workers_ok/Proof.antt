@@ -1,3 +1,4 @@
+-- `workers_ok` is `every` worker: those left to test say what all say (`Every`); they fall.
 use mathlib.Core.Path.{_≡_, refl}
 use mathlib.Core.List.{List}
 use Prim.Native.Nat.{ℕ}

@@ -1,7 +1,8 @@
+-- `children_ok` is `childrenOk`: the kind chooses which test of the children counts.
 use mathlib.Core.Path.{refl}
+use borrow.Author.Needs.{needs}
 use Rattle.laws.specs.Choice.{pick}
 use Rattle.sound.specs.Sound.{childrenOk}
-use borrow.Author.Needs.{needs}
 use Rattle.rows.proofs.nodes.children_ok.Statement.{statement}
 use Rattle.rows.proofs.nodes.children_ok.Tie as tie
 

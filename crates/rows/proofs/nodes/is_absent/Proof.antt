@@ -1,6 +1,7 @@
+-- `is_absent` is `isAbsent`, on each way of the match.
 use mathlib.Core.Path.{refl}
-use Rattle.sound.specs.Sound.{isAbsent}
 use borrow.Author.Needs.{needs}
+use Rattle.sound.specs.Sound.{isAbsent}
 use Rattle.rows.proofs.nodes.is_absent.Statement.{statement}
 use Rattle.rows.proofs.nodes.is_absent.Tie as tie
 

@@ -1,7 +1,8 @@
+-- `node_ok` is `nodeOk`: its tests joined (`all-joined`), by the fields read.
 use mathlib.Core.Path.{sym}
+use borrow.Author.Needs.{needs}
 use Rattle.laws.specs.Every.{joined, all-joined}
 use Rattle.sound.specs.Sound.{nodeOk}
-use borrow.Author.Needs.{needs}
 use Rattle.rows.proofs.nodes.node_ok.Statement.{statement}
 use Rattle.rows.proofs.nodes.node_ok.Tie as tie
 

@@ -1,3 +1,4 @@
+-- `nodes_ok` is `every` node: those left to test say what all say (`Every`); they fall.
 use mathlib.Core.Path.{_≡_, refl}
 use borrow.Author.Needs.{needs}
 use Rattle.laws.specs.Tests.{every}

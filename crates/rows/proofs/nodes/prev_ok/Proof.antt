@@ -1,6 +1,7 @@
+-- `prev_ok` is `prevOk`, on each way of the match.
 use mathlib.Core.Path.{refl}
-use Rattle.sound.specs.Sound.{prevOk}
 use borrow.Author.Needs.{needs}
+use Rattle.sound.specs.Sound.{prevOk}
 use Rattle.rows.proofs.nodes.prev_ok.Statement.{statement}
 use Rattle.rows.proofs.nodes.prev_ok.Tie as tie
 

@@ -1,3 +1,4 @@
+-- `rank_ok` is `rankOk`, by computation.
 use mathlib.Core.Path.{refl}
 use Rattle.sound.specs.Sound.{rankOk}
 use Rattle.rows.proofs.nodes.rank_ok.Statement.{statement}

@@ -1,7 +1,8 @@
+-- `root_ok` is `rootOk`: its tests joined (`all-joined`), by the fields read.
 use mathlib.Core.Path.{sym}
+use borrow.Author.Needs.{needs}
 use Rattle.laws.specs.Every.{joined, all-joined}
 use Rattle.sound.specs.Sound.{rootOk}
-use borrow.Author.Needs.{needs}
 use Rattle.rows.proofs.nodes.root_ok.Statement.{statement}
 use Rattle.rows.proofs.nodes.root_ok.Tie as tie
 

@@ -1,3 +1,4 @@
+-- `phase_ok` is `phaseOk`, by computation.
 use mathlib.Core.Path.{refl}
 use Rattle.sound.specs.Sound.{phaseOk}
 use Rattle.rows.proofs.numbers.phase_ok.Statement.{statement}

@@ -1,6 +1,7 @@
+-- `used_maybe` is `usedMaybe`, on each way of the match.
 use mathlib.Core.Path.{refl}
-use Rattle.sound.specs.Sound.{usedMaybe}
 use borrow.Author.Needs.{needs}
+use Rattle.sound.specs.Sound.{usedMaybe}
 use Rattle.rows.proofs.numbers.used_maybe.Statement.{statement}
 use Rattle.rows.proofs.numbers.used_maybe.Tie as tie
 

@@ -1,3 +1,4 @@
+-- `used_node` is `usedNode`, by computation.
 use mathlib.Core.Path.{refl}
 use Rattle.sound.specs.Sound.{usedNode}
 use Rattle.rows.proofs.numbers.used_node.Statement.{statement}

@@ -1,7 +1,8 @@
+-- `used_ok` is `usedOk`: its tests joined (`all-joined`).
 use mathlib.Core.Path.{sym}
+use borrow.Author.Needs.{needs}
 use Rattle.laws.specs.Every.{joined, all-joined}
 use Rattle.sound.specs.Sound.{usedOk}
-use borrow.Author.Needs.{needs}
 use Rattle.rows.proofs.numbers.used_ok.Statement.{statement}
 use Rattle.rows.proofs.numbers.used_ok.Tie as tie
 

@@ -1,3 +1,4 @@
+-- `used_record` is `usedRecord`, by computation.
 use mathlib.Core.Path.{refl}
 use Rattle.sound.specs.Sound.{usedRecord}
 use Rattle.rows.proofs.numbers.used_record.Statement.{statement}

@@ -1,5 +1,6 @@
-use Rattle.sound.specs.Sound.{wordOk}
+-- `word_ok` is `wordOk`, by what `used_record` says.
 use borrow.Author.Needs.{needs}
+use Rattle.sound.specs.Sound.{wordOk}
 use Rattle.rows.proofs.numbers.word_ok.Statement.{statement}
 use Rattle.rows.proofs.numbers.word_ok.Tie as tie
 

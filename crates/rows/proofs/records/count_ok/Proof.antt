@@ -1,5 +1,6 @@
-use Rattle.sound.specs.Sound.{countOk}
+-- `count_ok` is `countOk`, by what `is_internal` says.
 use borrow.Author.Needs.{needs}
+use Rattle.sound.specs.Sound.{countOk}
 use Rattle.rows.proofs.records.count_ok.Statement.{statement}
 use Rattle.rows.proofs.records.count_ok.Tie as tie
 

@@ -1,12 +1,12 @@
-use mathlib.Core.Path.{_≡_, refl, sym}
-use Prim.Native.Nat.{ℕ}
+-- `dummy_ok` is `dummyOk`: the words left to test say what all say (`Every`); they fall.
+use mathlib.Core.Path.{_≡_, refl}
 use lib.ListN.{getD}
 use lib.Dec.{eqb}
 use borrow.Author.Needs.{needs}
 use Rattle.laws.specs.Tests.{every}
 use Rattle.laws.specs.Every.{stops, goes-on, ends}
 use Rattle.tables.specs.Names.{dummy}
-use Rattle.tables.specs.Records.{recordWord, recordRow, aborted, unfilled, recordWidth}
+use Rattle.tables.specs.Records.{recordWord, recordRow, aborted, unfilled}
 use Rattle.sound.specs.Sound.{dummyOk}
 use Rattle.rows.proofs.records.dummy_ok.Statement.{statement}
 use Rattle.rows.proofs.records.dummy_ok.Tie as tie

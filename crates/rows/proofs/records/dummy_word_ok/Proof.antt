@@ -1,9 +1,10 @@
+-- `dummy_word_ok` compares a word of record 0 with the dummy's: ABORT at the state, else 0 (`Dummy`).
+use mathlib.Core.Path.{refl}
 use native.Mathlib.Nat.{zero-add}
-use mathlib.Core.Path.{refl, sym}
-use Rattle.rows.proofs.Dummy.{dummy-else}
+use borrow.Author.Needs.{needs}
 use Rattle.tables.specs.Rows.{word}
 use Rattle.tables.specs.Records.{recordRow, entryRow}
-use borrow.Author.Needs.{needs}
+use Rattle.rows.proofs.Dummy.{dummy-else}
 use Rattle.rows.proofs.records.dummy_word_ok.Statement.{statement}
 use Rattle.rows.proofs.records.dummy_word_ok.Tie as tie
 

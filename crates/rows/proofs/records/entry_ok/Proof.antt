@@ -1,7 +1,8 @@
+-- `entry_ok` is `entryOk`: its tests joined (`all-joined`).
 use mathlib.Core.Path.{sym}
+use borrow.Author.Needs.{needs}
 use Rattle.laws.specs.Every.{joined, all-joined}
 use Rattle.sound.specs.Sound.{entryOk}
-use borrow.Author.Needs.{needs}
 use Rattle.rows.proofs.records.entry_ok.Statement.{statement}
 use Rattle.rows.proofs.records.entry_ok.Tie as tie
 

@@ -1,7 +1,8 @@
+-- `record_ok` is `recordOk`: its tests joined (`all-joined`); the count's test decides whether the others are made.
 use mathlib.Core.Path.{refl}
+use borrow.Author.Needs.{needs}
 use Rattle.laws.specs.Every.{joined, all-joined}
 use Rattle.sound.specs.Sound.{recordOk}
-use borrow.Author.Needs.{needs}
 use Rattle.rows.proofs.records.record_ok.Statement.{statement}
 use Rattle.rows.proofs.records.record_ok.Tie as tie
 
