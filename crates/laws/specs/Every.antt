@@ -38,6 +38,17 @@ module _ (f : ℕ → Bool) (k : ℕ) {whole : Bool} (inv : every k f ≡ whole)
   pub ends : k ≤ 0 → true ≡ whole
   ends h = sym (every-none f k h) ∙ inv
 
+-- the same, of a list numbered from 1
+module _ (f : ℕ → Bool) (k : ℕ) {whole : Bool} (inv : every k (λ i. f (suc i)) ≡ whole) where
+  last : 0 < k → f k ≡ f (suc (k - 1))
+  last h = let e : suc (k - 1) ≡ k = omega arith in rw e
+
+  pub stops-from-one : {r : Bool} → 0 < k → r ≡ f k → not r ≡ true → false ≡ whole
+  stops-from-one h e t = stops (λ i. f (suc i)) k inv h (e ∙ last h) t
+
+  pub goes-on-from-one : {r : Bool} → 0 < k → r ≡ f k → not r ≡ false → every (k - 1) (λ i. f (suc i)) ≡ whole
+  goes-on-from-one h e t = goes-on (λ i. f (suc i)) k inv h (e ∙ last h) t
+
 -- ---- tests joined from left to right, as code joins them by `&`
 
 unfoldable pub joined : Bool → List Bool → Bool

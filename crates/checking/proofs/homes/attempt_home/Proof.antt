@@ -1,4 +1,4 @@
--- `attempt_home` is `attemptHome`, on each arm (`arm`), by what its callees say.
+-- `attempt_home` is `attemptHome`, on each arm; the numbers are those of the variants that it names (`arm`).
 use mathlib.Core.Path.{refl, _∙_}
 use mathlib.Core.List.{[], _∷_}
 use borrow.Author.Needs.{needs}

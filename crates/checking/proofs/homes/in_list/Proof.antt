@@ -1,4 +1,4 @@
--- `in_list` is `inList`, on each arm (`arm`).
+-- `in_list` is `inList`, on each arm; the numbers are those of the variants that it names (`arm`).
 use mathlib.Core.Path.{refl}
 use mathlib.Core.List.{[], _∷_}
 use Rattle.laws.specs.Arms.{arm}

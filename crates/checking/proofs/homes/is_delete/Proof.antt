@@ -1,4 +1,4 @@
--- `is_delete` is `isDelete`, on each arm (`arm`).
+-- `is_delete` is `isDelete`, on each arm; the numbers are those of the variants that it names (`arm`).
 use mathlib.Core.Path.{refl}
 use mathlib.Core.List.{[], _∷_}
 use borrow.Author.Needs.{needs}

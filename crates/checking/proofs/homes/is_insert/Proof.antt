@@ -1,4 +1,4 @@
--- `is_insert` is `isInsert`, on each arm (`arm`).
+-- `is_insert` is `isInsert`, on each arm; the numbers are those of the variants that it names (`arm`).
 use mathlib.Core.Path.{refl}
 use mathlib.Core.List.{[], _∷_}
 use borrow.Author.Needs.{needs}

@@ -1,4 +1,4 @@
--- `is_update` is `isUpdate`, on each arm (`arm`).
+-- `is_update` is `isUpdate`, on each arm; the numbers are those of the variants that it names (`arm`).
 use mathlib.Core.Path.{refl}
 use mathlib.Core.List.{[], _∷_}
 use borrow.Author.Needs.{needs}

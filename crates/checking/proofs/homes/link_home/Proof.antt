@@ -1,4 +1,4 @@
--- `link_home` is `linkHome`, on each arm (`arm`).
+-- `link_home` is `linkHome`, on each arm; the numbers are those of the variants that it names (`arm`).
 use mathlib.Core.Path.{refl, _∙_}
 use mathlib.Core.List.{[], _∷_}
 use borrow.Author.Needs.{needs}

@@ -1,4 +1,4 @@
--- `scan_home` is `scanHome`, on each arm (`arm`).
+-- `scan_home` is `scanHome`, on each arm; the numbers are those of the variants that it names (`arm`).
 use mathlib.Core.Path.{refl}
 use mathlib.Core.List.{[], _∷_}
 use borrow.Author.Needs.{needs}

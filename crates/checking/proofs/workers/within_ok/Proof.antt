@@ -1,4 +1,4 @@
--- `within_ok` is `withinOk`, on each arm (`arm`), by what its callees say.
+-- `within_ok` is `withinOk`, on each arm; the numbers are those of the variants that it names (`arm`).
 use mathlib.Core.Path.{refl, _∙_}
 use mathlib.Core.List.{[], _∷_}
 use borrow.Author.Needs.{needs}

@@ -1,10 +1,9 @@
 -- `entries_ok` is `every` entry, from 1: those left to test say what all say (`Every`); they fall.
 use mathlib.Core.Path.{_≡_, refl}
-use Prim.Native.Nat.{suc, _-_}
-use native.Mathlib.Omega.{arith}
+use Prim.Native.Nat.{suc}
 use borrow.Author.Needs.{needs}
 use Rattle.laws.specs.Tests.{every}
-use Rattle.laws.specs.Every.{stops, goes-on, ends}
+use Rattle.laws.specs.Every.{stops-from-one, goes-on-from-one, ends}
 use Rattle.tables.specs.Records.{entryAt}
 use Rattle.sound.specs.Sound.{entryOk}
 use Rattle.rows.proofs.records.entries_ok.Statement.{statement}
@@ -26,7 +25,7 @@ entry-ok-requires : tie.Need-entry-ok-requires Inv-loop μ-loop
 entry-ok-requires c κs = search needs
 
 returns : tie.Need-returns Inv-loop μ-loop
-returns c = let e : c .before .before .before .before .loop .i ≡ suc (c .before .before .before .before .loop .i - 1) = omega arith in stops _ (c .before .before .before .before .loop .i) (c .before .before .before .before .loop .inv) (search needs) (rw (c .before .before .entry-at .ensures, e) at (c .before .entry-ok .ensures)) (c .if1 .taken)
+returns c = stops-from-one (λ j. entryOk (c .before .before .before .before .before .before .args .t) (entryAt (c .before .before .before .before .before .before .args .rs .now) (c .before .before .before .before .before .before .args .r) j)) (c .before .before .before .before .loop .i) (c .before .before .before .before .loop .inv) (search needs) (rw (c .before .before .entry-at .ensures) at (c .before .entry-ok .ensures)) (c .if1 .taken)
 
 sub-i : tie.Need-sub-i Inv-loop μ-loop
 sub-i c = search needs
@@ -35,7 +34,7 @@ loop-less : tie.Need-loop-less Inv-loop μ-loop
 loop-less c = search needs
 
 loop-again : tie.Need-loop-again Inv-loop μ-loop
-loop-again c = let e : c .before .before .before .before .loop .i ≡ suc (c .before .before .before .before .loop .i - 1) = omega arith in goes-on _ (c .before .before .before .before .loop .i) (c .before .before .before .before .loop .inv) (search needs) (rw (c .before .before .entry-at .ensures, e) at (c .before .entry-ok .ensures)) (c .if1 .left)
+loop-again c = goes-on-from-one (λ j. entryOk (c .before .before .before .before .before .before .args .t) (entryAt (c .before .before .before .before .before .before .args .rs .now) (c .before .before .before .before .before .before .args .r) j)) (c .before .before .before .before .loop .i) (c .before .before .before .before .loop .inv) (search needs) (rw (c .before .before .entry-at .ensures) at (c .before .entry-ok .ensures)) (c .if1 .left)
 
 returns-2 : tie.Need-returns-2 Inv-loop μ-loop
 returns-2 c = ends _ (c .before .loop .i) (c .before .loop .inv) (search needs)

@@ -1,10 +1,9 @@
 -- `records_ok` is `every` record from 1: those left to test say what all say (`Every`); they fall.
 use mathlib.Core.Path.{_≡_, refl}
 use Prim.Native.Nat.{suc, _-_}
-use native.Mathlib.Omega.{arith}
 use borrow.Author.Needs.{needs}
 use Rattle.laws.specs.Tests.{every}
-use Rattle.laws.specs.Every.{stops, goes-on, ends}
+use Rattle.laws.specs.Every.{stops-from-one, goes-on-from-one, ends}
 use Rattle.tables.specs.World.{tables}
 use Rattle.sound.specs.Sound.{recordOk}
 use Rattle.rows.proofs.records.records_ok.Statement.{statement}
@@ -26,13 +25,13 @@ record-ok-requires : tie.Need-record-ok-requires Inv-loop μ-loop
 record-ok-requires c κs = search needs
 
 returns : tie.Need-returns Inv-loop μ-loop
-returns c = let e : c .before .before .before .loop .n - 1 ≡ suc (c .before .before .before .loop .n - 1 - 1) = omega arith in stops _ (c .before .before .before .loop .n - 1) (c .before .before .before .loop .inv) (search needs) (rw e at (c .before .record-ok .ensures)) (c .if1 .taken)
+returns c = stops-from-one (recordOk _) (c .before .before .before .loop .n - 1) (c .before .before .before .loop .inv) (search needs) (c .before .record-ok .ensures) (c .if1 .taken)
 
 loop-less : tie.Need-loop-less Inv-loop μ-loop
 loop-less c = search needs
 
 loop-again : tie.Need-loop-again Inv-loop μ-loop
-loop-again c = let e : c .before .before .before .loop .n - 1 ≡ suc (c .before .before .before .loop .n - 1 - 1) = omega arith in goes-on _ (c .before .before .before .loop .n - 1) (c .before .before .before .loop .inv) (search needs) (rw e at (c .before .record-ok .ensures)) (c .if1 .left)
+loop-again c = goes-on-from-one (recordOk _) (c .before .before .before .loop .n - 1) (c .before .before .before .loop .inv) (search needs) (c .before .record-ok .ensures) (c .if1 .left)
 
 returns-2 : tie.Need-returns-2 Inv-loop μ-loop
 returns-2 c = ends _ (c .before .loop .n - 1) (c .before .loop .inv) (search needs)
