@@ -6,9 +6,5 @@ use Rattle.laws.specs.Tests.{all, every}
 use Rattle.laws.specs.Every.{joined}
 
 unfoldable pub lawsOpened : ℕ
-<<<<<<< HEAD
-unfolding change changeOn pick all every
-=======
-unfolding pick all every joined
->>>>>>> 080bc711ca0f5e0642f7f6e347f8cfc27788c67d
+unfolding change changeOn pick all every joined
 lawsOpened = 0
