@@ -1,7 +1,7 @@
 -- A run looks at the tables once: an accepted turn keeps sound tables sound, so every later look would find them so.
 use Prim.Native.Nat.{ℕ, zero, suc}
-use mathlib.Core.Path.{_≡_, refl, sym, ap, _∙_, subst}
-use mathlib.Core.Bool.{Bool, true}
+use mathlib.Core.Path.{_≡_, refl, subst}
+use mathlib.Core.Bool.{true}
 use Rattle.laws.specs.Choice.{pick}
 use Rattle.shapes.specs.declared.Outcome.the-variants.{Going}
 use Rattle.tables.specs.World.{World}

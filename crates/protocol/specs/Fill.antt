@@ -1,18 +1,18 @@
 -- Line 102: an unfilled record is filled with what its worker has collected, and gets the next stamp.
-use Prim.Native.Nat.{ℕ, zero, suc, _+_, _≤_, _<_}
-use mathlib.Core.Path.{_≡_, refl, sym, ap, _∙_, subst}
+use Prim.Native.Nat.{ℕ, suc, _≤_, _<_}
+use mathlib.Core.Path.{_≡_, sym, ap, _∙_, subst}
 use mathlib.Core.Logic.{_≢_, _⊎_, inl, inr}
-use mathlib.Core.Bool.{Bool, true, false, true≢false, false≢true}
+use mathlib.Core.Bool.{true, false, true≢false}
 use native.Mathlib.Omega.{arith}
 use Rattle.laws.specs.Changed.{change, change-same, change-other, change-case, by-equal}
 use Rattle.shapes.specs.declared.Update.{Update}
 use Rattle.shapes.specs.declared.Filling.{Filling}
-use Rattle.shapes.specs.declared.MaybeNode.the-variants.{Absent, At}
+use Rattle.shapes.specs.declared.MaybeNode.the-variants.{At}
 use Rattle.tables.specs.Names.{node}
 use Rattle.tables.specs.Records.{undecided, trying, committed, aborted}
 use Rattle.sound.specs.Meaning.{entryOf}
 use Rattle.views.specs.View.{View, wRecord}
-use Rattle.protocol.specs.Ghost.{Ghost, nodeOf, oldOf, parOf, oldChildOf, newChildOf, seqOf, sideOf, linkOf, Filled, InList, Past, Passed, FrozeTo, FrozeAll, Lost, Live, KnownWord, Seen, Final}
+use Rattle.protocol.specs.Ghost.{Ghost, oldOf, Filled, InList, Passed, KnownWord, Seen, Final}
 use Rattle.protocol.specs.Invariant.{Planted, Held, Copied, RecordHolds, Holds}
 
 abbrev pub gFilled : Ghost → ℕ → Ghost

@@ -1,15 +1,15 @@
 -- A freeze CAS that succeeds, of a record in progress on one of its nodes, keeps the shared invariant.
-use Prim.Native.Nat.{ℕ, zero, suc, _+_, _≤_, _<_}
+use Prim.Native.Nat.{ℕ, _≤_, _<_}
 use mathlib.Core.Path.{_≡_, refl, sym, ap, _∙_, subst}
 use mathlib.Core.Logic.{_≢_, _⊎_, inl, inr}
-use mathlib.Core.Bool.{Bool, true, false, true≢false, false≢true}
+use mathlib.Core.Bool.{true}
 use native.Mathlib.Omega.{arith}
 use Rattle.laws.specs.Changed.{change, change-same, change-other, change-case, by-equal}
 use Rattle.shapes.specs.declared.Update.{Update}
 use Rattle.tables.specs.Names.{recordNo, update}
 use Rattle.tables.specs.Records.{committed, aborted}
 use Rattle.views.specs.View.{View, wUpdate}
-use Rattle.protocol.specs.Ghost.{Ghost, nodeOf, oldOf, parOf, oldChildOf, newChildOf, seqOf, sideOf, linkOf, Filled, InList, Past, Passed, FrozeTo, FrozeAll, Lost, Live, KnownWord, Seen, Final}
+use Rattle.protocol.specs.Ghost.{Ghost, nodeOf, oldOf, Filled, InList, Passed, Lost, Live, KnownWord, Seen}
 use Rattle.protocol.specs.Invariant.{Planted, Held, Copied, RecordHolds, Holds}
 
 -- the record froze one node more

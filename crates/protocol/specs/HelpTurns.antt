@@ -1,17 +1,17 @@
 -- One turn of HELP: the invariant is kept, the others may count on what they counted on, and the helper knows what its next step needs.
-use Prim.Native.Nat.{ℕ, zero, suc, _+_, _≤_, _<_}
-use mathlib.Core.Path.{_≡_, refl, sym, ap, _∙_, subst}
+use Prim.Native.Nat.{ℕ, suc, _≤_, _<_}
+use mathlib.Core.Path.{_≡_, refl, sym, _∙_}
 use mathlib.Core.Logic.{_≢_, _⊎_, inl, inr}
-use mathlib.Core.Bool.{Bool, true, false, true≢false, false≢true}
+use mathlib.Core.Bool.{Bool, true, false, true≢false}
 use native.Mathlib.Omega.{arith}
 use native.Mathlib.Decide.{decLe}
-use Rattle.laws.specs.Changed.{change, change-same, change-other}
+use Rattle.laws.specs.Changed.{change, change-same}
 use Rattle.shapes.specs.declared.HelpStep.{HelpStep}
-use Rattle.shapes.specs.declared.HelpStep.the-variants.{Counter111, Abort112, Try113, State114, Freeze117, Frozen119, Child123, Commit124, State125, Abort126, State127}
+use Rattle.shapes.specs.declared.HelpStep.the-variants.{State114, Freeze117, Frozen119, Child123, Commit124, State125, Abort126, State127}
 use Rattle.tables.specs.Names.{recordNo, update}
 use Rattle.tables.specs.Records.{undecided, trying, committed, aborted}
 use Rattle.views.specs.View.{View, wUpdate, wState, wKid}
-use Rattle.protocol.specs.Ghost.{Ghost, nodeOf, oldOf, parOf, oldChildOf, newChildOf, sideOf, linkOf, Filled, InList, Past, Passed, FrozeTo, Lost, Live}
+use Rattle.protocol.specs.Ghost.{Ghost, nodeOf, oldOf, parOf, oldChildOf, newChildOf, sideOf, linkOf, InList, Past, Passed, FrozeTo, Lost, Live}
 use Rattle.protocol.specs.Invariant.{RecordHolds, Holds}
 use Rattle.protocol.specs.Freeze.{gFroze, froze-more, freeze-holds}
 use Rattle.protocol.specs.SetState.{gTried, Sets, state-holds, sets-try, sets-early, sets-commit, sets-abort}

@@ -1,21 +1,19 @@
 -- The child CAS of a record that succeeds: what is linked by it, and that it fits the trees of every version.
-use Prim.Native.Nat.{ℕ, zero, suc, _+_, _≤_, _<_}
+use Prim.Native.Nat.{ℕ, _≤_, _<_}
 use mathlib.Core.Path.{_≡_, refl, sym, ap, _∙_, subst}
 use mathlib.Core.Logic.{_≢_, _⊎_, inl, inr}
-use mathlib.Core.Bool.{Bool, true, false, true≢false, false≢true}
+use mathlib.Core.Bool.{Bool, true, false, true≢false}
 use native.Mathlib.Omega.{arith}
-use Rattle.laws.specs.Changed.{change, change-same, change-other, change-case, by-equal, changeOn}
+use Rattle.laws.specs.Changed.{change, change-same, change-other, change-case, changeOn}
 use Rattle.shapes.specs.declared.Filling.{Filling}
 use Rattle.shapes.specs.declared.MaybeNode.{MaybeNode}
 use Rattle.shapes.specs.declared.NodeNo.{NodeNo}
 use Rattle.shapes.specs.declared.MaybeNode.the-variants.{Absent, At}
 use Rattle.tables.specs.Names.{node}
-use Rattle.tables.specs.NodeWrites.{Fixed}
-use Rattle.trees.specs.Version.{Store, setKid}
 use Rattle.trees.specs.Change.{Fits}
 use Rattle.trees.specs.Updates.{Insert, Delete, insert-fits, delete-fits}
 use Rattle.views.specs.View.{View, wKid}
-use Rattle.protocol.specs.Ghost.{Ghost, nodeOf, oldOf, parOf, oldChildOf, newChildOf, seqOf, sideOf, linkOf, Filled, InList, Past, FrozeAll, Live}
+use Rattle.protocol.specs.Ghost.{Ghost, nodeOf, parOf, oldChildOf, newChildOf, sideOf, linkOf, Filled, InList, Past, FrozeAll}
 use Rattle.protocol.specs.Invariant.{Planted, Held, Copied, RecordHolds, Holds}
 use Rattle.protocol.specs.Link.{gLinked, kid-other, link-holds}
 use Rattle.protocol.specs.Link as linking

@@ -1,18 +1,18 @@
 -- What every worker may count on when worker w takes a turn.
-use Prim.Native.Nat.{ℕ, zero, suc, _+_, _≤_, _<_}
-use mathlib.Core.Path.{_≡_, refl, sym, ap, _∙_, subst}
+use Prim.Native.Nat.{ℕ, suc, _≤_, _<_}
+use mathlib.Core.Path.{_≡_, refl, sym, ap, _∙_}
 use mathlib.Core.Logic.{_≢_, _⊎_, inl, inr}
-use mathlib.Core.Bool.{Bool, true, false, true≢false, false≢true}
+use mathlib.Core.Bool.{Bool, true, false, true≢false}
 use native.Mathlib.Omega.{arith}
 use native.Mathlib.Decide.{decLe}
-use Rattle.laws.specs.Changed.{change, change-same, change-other, change-case, by-equal}
+use Rattle.laws.specs.Changed.{change, change-other, change-case, by-equal}
 use Rattle.shapes.specs.declared.Update.{Update}
 use Rattle.shapes.specs.declared.Filling.{Filling}
 use Rattle.tables.specs.Names.{recordNo, update}
-use Rattle.tables.specs.Records.{undecided, trying, committed, aborted}
-use Rattle.views.specs.View.{View, wUpdate, wState, wKid, wRecord, wCounter}
-use Rattle.protocol.specs.Ghost.{Ghost, nodeOf, oldOf, parOf, oldChildOf, newChildOf, seqOf, sideOf, linkOf, Filled, InList, Past, Passed, FrozeTo, FrozeAll, Lost, Live, KnownWord, Seen, Final}
-use Rattle.protocol.specs.Invariant.{Planted, Held, Copied, RecordHolds, Holds}
+use Rattle.tables.specs.Records.{undecided, trying}
+use Rattle.views.specs.View.{View, wUpdate, wState, wRecord, wCounter}
+use Rattle.protocol.specs.Ghost.{Ghost, nodeOf, oldOf, Filled, InList, Past, Passed, FrozeTo, Lost, Live, KnownWord, Seen, Final}
+use Rattle.protocol.specs.Invariant.{Planted, Copied, RecordHolds, Holds}
 use Rattle.protocol.specs.Freeze.{gFroze, froze-more, stamp-up}
 use Rattle.protocol.specs.Freeze as freeze
 use Rattle.protocol.specs.SetState.{gTried, Sets}

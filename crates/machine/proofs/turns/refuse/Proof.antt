@@ -1,6 +1,5 @@
 -- `refuse`: the board as it was.
 use mathlib.Core.Path.{refl}
-use borrow.Author.Needs.{needs}
 use Rattle.machine.proofs.turns.refuse.Statement.{statement}
 use Rattle.machine.proofs.turns.refuse.Tie as tie
 
