@@ -40,7 +40,7 @@ module _ (w : ℕ) (X : View) (G : Ghost) (H : Holds X G) (r : ℕ) (s : Shown X
   second-in = record { low = omega arith; high = R .two }
 
   -- a turn that only reads
-  stays : (i : ℕ) (b : HelpStep) → At X G r i b → Helped w X X G r i b
+  pub stays : (i : ℕ) (b : HelpStep) → At X G r i b → Helped w X X G r i b
   stays i b h = record { after = G; holds = H; rely = rely-same w X G; knows = record { shown = s; at = h } }
 
   -- a turn that sets the state

@@ -11,3 +11,4 @@ pub mod Helper
 pub mod Trees
 pub mod Linking
 pub mod HelpTurns
+pub mod HelpMoves
