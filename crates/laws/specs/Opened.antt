@@ -3,7 +3,8 @@ use Prim.Native.Nat.{ℕ}
 use Rattle.laws.specs.Changed.{change, changeOn}
 use Rattle.laws.specs.Choice.{pick}
 use Rattle.laws.specs.Tests.{all, every}
+use Rattle.laws.specs.Every.{joined}
 
 unfoldable pub lawsOpened : ℕ
-unfolding change changeOn pick all every
+unfolding change changeOn pick all every joined
 lawsOpened = 0

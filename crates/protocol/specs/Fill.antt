@@ -1,18 +1,18 @@
 -- Line 102: an unfilled record is filled with what its worker has collected, and gets the next stamp.
-use Prim.Native.Nat.{ℕ, zero, suc, _+_, _≤_, _<_}
-use mathlib.Core.Path.{_≡_, refl, sym, ap, _∙_, subst}
+use Prim.Native.Nat.{ℕ, suc, _≤_, _<_}
+use mathlib.Core.Path.{_≡_, sym, ap, _∙_, subst}
 use mathlib.Core.Logic.{_≢_, _⊎_, inl, inr}
-use mathlib.Core.Bool.{Bool, true, false, true≢false, false≢true}
+use mathlib.Core.Bool.{true, false, true≢false}
 use native.Mathlib.Omega.{arith}
 use Rattle.laws.specs.Changed.{change, change-same, change-other, change-case, by-equal}
 use Rattle.shapes.specs.declared.Update.{Update}
 use Rattle.shapes.specs.declared.Filling.{Filling}
-use Rattle.shapes.specs.declared.MaybeNode.the-variants.{Absent, At}
+use Rattle.shapes.specs.declared.MaybeNode.the-variants.{At}
 use Rattle.tables.specs.Names.{node}
 use Rattle.tables.specs.Records.{undecided, trying, committed, aborted}
 use Rattle.sound.specs.Meaning.{entryOf}
 use Rattle.views.specs.View.{View, wRecord}
-use Rattle.protocol.specs.Ghost.{Ghost, nodeOf, oldOf, parOf, oldChildOf, newChildOf, seqOf, sideOf, linkOf, Filled, InList, Past, Passed, FrozeTo, FrozeAll, Lost, Live, KnownWord, Seen, Final}
+use Rattle.protocol.specs.Ghost.{Ghost, oldOf, Filled, InList, Passed, KnownWord, Seen, Final}
 use Rattle.protocol.specs.Invariant.{Planted, Held, Copied, RecordHolds, Holds}
 
 abbrev pub gFilled : Ghost → ℕ → Ghost
@@ -101,6 +101,7 @@ module _ (X : View) (G : Ghost) (H : Holds X G) (r : ℕ) (f : Filling) (F : Fil
     later = λ v h. absurd (true≢false (sym h ∙ none .2 v));
     holds = λ v h. absurd (true≢false (sym h ∙ none .2 v));
     tried-state = λ h. absurd (true≢false (sym h ∙ none .1));
+    trying-tried = λ e. let z : _≡_ {A = ℕ} undecided trying = sym (change-same (X .state) r undecided) ∙ e in absurd (omega arith);
     most = rw (change-same (X .state) r undecided) (omega arith);
     commits = λ e. let z : undecided ≡ committed = sym (change-same (X .state) r undecided) ∙ e in absurd (omega arith);
     aborts = λ e. let z : undecided ≡ aborted = sym (change-same (X .state) r undecided) ∙ e in absurd (omega arith);
@@ -155,6 +156,7 @@ module _ (X : View) (G : Ghost) (H : Holds X G) (r : ℕ) (f : Filling) (F : Fil
       later = λ v h. rw (stamp-q, word-stamp v (was .frozen v h)) (was .later v h);
       holds = λ v h live. was .holds v h (rw (state-same q ne) at live);
       tried-state = λ h. rw (state-same q ne) (was .tried-state h);
+      trying-tried = λ e. was .trying-tried (sym (state-same q ne) ∙ e);
       most = rw (state-same q ne) (was .most);
       commits = λ e. was .commits (sym (state-same q ne) ∙ e);
       aborts = λ e t. let h = was .aborts (sym (state-same q ne) ∙ e) t in record { at = h .at; list = h .list; before = h .before; not = h .not; gone = passed′ (h .at) (h .list) (h .gone) };

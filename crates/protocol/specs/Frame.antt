@@ -1,19 +1,18 @@
 -- What is written only where nobody looks (nodes and records being taken, a copy being made) keeps the shared invariant.
-use Prim.Native.Nat.{ℕ, zero, suc, _+_, _≤_, _<_}
-use mathlib.Core.Path.{_≡_, refl, sym, ap, ap₂, _∙_, subst}
-use mathlib.Core.Logic.{_≢_, _⊎_, inl, inr}
-use mathlib.Core.Bool.{Bool, true, false, true≢false, false≢true}
+use Prim.Native.Nat.{ℕ, suc, _≤_, _<_}
+use mathlib.Core.Path.{_≡_, sym, ap, ap₂, _∙_, subst}
+use mathlib.Core.Logic.{_⊎_, inl, inr}
+use mathlib.Core.Bool.{Bool, true, false}
 use native.Mathlib.Omega.{arith}
 use native.Mathlib.Decide.{decLe}
 use lib.Dec.{ltb}
 use Rattle.shapes.specs.declared.Update.{Update}
 use Rattle.shapes.specs.declared.Filling.{Filling}
-use Rattle.shapes.specs.declared.MaybeNode.the-variants.{Absent, At}
-use Rattle.tables.specs.Names.{node, value}
+use Rattle.tables.specs.Names.{value}
 use Rattle.tables.specs.NodeWrites.{Fixed}
-use Rattle.tables.specs.Records.{committed, aborted}
+use Rattle.tables.specs.Records.{aborted}
 use Rattle.views.specs.View.{View}
-use Rattle.protocol.specs.Ghost.{Ghost, nodeOf, oldOf, parOf, oldChildOf, newChildOf, seqOf, sideOf, linkOf, Filled, InList, Past, Passed, FrozeTo, FrozeAll, Lost, Live, KnownWord, Seen, Final}
+use Rattle.protocol.specs.Ghost.{Ghost, nodeOf, oldOf, parOf, oldChildOf, newChildOf, sideOf, linkOf, Filled, InList, Lost, KnownWord, Seen, Final}
 use Rattle.protocol.specs.Invariant.{Planted, Held, Copied, RecordHolds, Holds}
 
 -- the two agree on the nodes of P, on used update words, and on used records; P has all that is linked or belongs to a filled record
@@ -139,6 +138,7 @@ module _ (X X′ : View) (G G′ : Ghost) (P : ℕ → Type 0) (H : Holds X G) (
       later = λ v h. let z = rw (A .froze) at h in rw (A .stamp, A .update v (was .frozen v z)) (was .later v z);
       holds = λ v h live. let z = rw (A .froze) at h in rw (A .update v (was .frozen v z)) (was .holds v z (rw state-same at live));
       tried-state = λ h. rw state-same (was .tried-state (rw (A .tried) at h));
+      trying-tried = λ e. rw (A .tried) (was .trying-tried (sym state-same ∙ e));
       most = rw state-same (was .most);
       commits = λ e. let c = was .commits (sym state-same ∙ e) in (rw (A .tried) (c .0), (λ i l. rw (A .froze) (c .1 i l)), λ d. c .2 (sym link-same ∙ d));
       aborts = λ e t. lost′ (was .aborts (sym state-same ∙ e) (rw (A .tried) at t));

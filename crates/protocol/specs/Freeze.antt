@@ -1,15 +1,15 @@
 -- A freeze CAS that succeeds, of a record in progress on one of its nodes, keeps the shared invariant.
-use Prim.Native.Nat.{ℕ, zero, suc, _+_, _≤_, _<_}
+use Prim.Native.Nat.{ℕ, _≤_, _<_}
 use mathlib.Core.Path.{_≡_, refl, sym, ap, _∙_, subst}
 use mathlib.Core.Logic.{_≢_, _⊎_, inl, inr}
-use mathlib.Core.Bool.{Bool, true, false, true≢false, false≢true}
+use mathlib.Core.Bool.{true}
 use native.Mathlib.Omega.{arith}
 use Rattle.laws.specs.Changed.{change, change-same, change-other, change-case, by-equal}
 use Rattle.shapes.specs.declared.Update.{Update}
 use Rattle.tables.specs.Names.{recordNo, update}
 use Rattle.tables.specs.Records.{committed, aborted}
 use Rattle.views.specs.View.{View, wUpdate}
-use Rattle.protocol.specs.Ghost.{Ghost, nodeOf, oldOf, parOf, oldChildOf, newChildOf, seqOf, sideOf, linkOf, Filled, InList, Past, Passed, FrozeTo, FrozeAll, Lost, Live, KnownWord, Seen, Final}
+use Rattle.protocol.specs.Ghost.{Ghost, nodeOf, oldOf, Filled, InList, Passed, Lost, Live, KnownWord, Seen}
 use Rattle.protocol.specs.Invariant.{Planted, Held, Copied, RecordHolds, Holds}
 
 -- the record froze one node more
@@ -115,6 +115,7 @@ module _ (X : View) (G : Ghost) (H : Holds X G) (r j m : ℕ) (f : Filled X r) (
           | inr p ↦ rw (p .1, change-same (X .update) x u) (sym (p .0))
         ];
         tried-state = was .tried-state;
+        trying-tried = was .trying-tried;
         most = was .most;
         commits = λ e. let c = was .commits e in (c .0, (λ k i. froze-more G r x q _ (c .1 k i)), c .2);
         aborts = λ e t. by-equal q r (λ d. let z : X .state r ≡ aborted = rw d at e in absurd (omega (arith, live))) (λ d. lost′ d (was .aborts e t));

@@ -1,12 +1,11 @@
 -- What a run leaves behind beside the tables: ghosts, of which the machine knows nothing. They are carried by existence.
-use Prim.Native.Nat.{ℕ, zero, suc, _+_, _≤_, _<_}
+use Prim.Native.Nat.{ℕ, _≤_, _<_}
 use mathlib.Core.Path.{_≡_}
 use mathlib.Core.Logic.{_≢_, _⊎_}
 use mathlib.Core.Bool.{Bool, true, false}
 use lib.Dec.{ltb}
 use Rattle.shapes.specs.declared.Update.{Update}
 use Rattle.shapes.specs.declared.Filling.{Filling}
-use Rattle.shapes.specs.declared.Entry.{Entry}
 use Rattle.tables.specs.Names.{value}
 use Rattle.tables.specs.Records.{committed}
 use Rattle.sound.specs.Meaning.{entryOf}

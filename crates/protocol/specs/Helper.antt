@@ -1,16 +1,14 @@
 -- What a worker inside HELP of record r knows at each step, and that the others keep it.
-use Prim.Native.Nat.{ℕ, zero, suc, _+_, _≤_, _<_}
-use mathlib.Core.Path.{_≡_, refl, sym, ap, _∙_, subst}
-use mathlib.Core.Logic.{_≢_, _⊎_, inl, inr}
-use mathlib.Core.Bool.{Bool, true, false, true≢false, false≢true}
-use native.Mathlib.Omega.{arith}
-use Rattle.shapes.specs.declared.Filling.{Filling}
+use Prim.Native.Nat.{ℕ, _≤_}
+use mathlib.Core.Path.{_≡_}
+use mathlib.Core.Logic.{_⊎_, inl, inr}
+use mathlib.Core.Bool.{true}
 use Rattle.shapes.specs.declared.HelpStep.{HelpStep}
 use Rattle.shapes.specs.declared.HelpStep.the-variants.{Counter111, Abort112, Try113, State114, Freeze117, Frozen119, Child123, Commit124, State125, Abort126, State127}
-use Rattle.tables.specs.Records.{trying, committed, aborted}
+use Rattle.tables.specs.Records.{trying, committed}
 use Rattle.views.specs.View.{View}
-use Rattle.protocol.specs.Ghost.{Ghost, nodeOf, oldOf, Filled, InList, Past, Passed, FrozeTo, FrozeAll, Lost}
-use Rattle.protocol.specs.Rely.{Unseen, Rely}
+use Rattle.protocol.specs.Ghost.{Ghost, nodeOf, Filled, InList, Past, Passed, FrozeTo, FrozeAll, Lost}
+use Rattle.protocol.specs.Rely.{Rely}
 
 -- the record is filled, and its first node is frozen: it has been seen
 pub record Shown (X : View) (G : Ghost) (r : ℕ) : Type 0 where

@@ -1,15 +1,14 @@
 -- The shared invariant, clause by clause.
-use Prim.Native.Nat.{ℕ, zero, suc, _+_, _≤_, _<_}
+use Prim.Native.Nat.{ℕ, _≤_, _<_}
 use mathlib.Core.Path.{_≡_}
 use mathlib.Core.Logic.{_≢_, _⊎_}
 use mathlib.Core.Bool.{Bool, true, false}
-use Rattle.shapes.specs.declared.Update.{Update}
 use Rattle.shapes.specs.declared.Filling.{Filling}
 use Rattle.shapes.specs.declared.MaybeNode.the-variants.{Absent, At}
 use Rattle.tables.specs.Names.{node}
-use Rattle.tables.specs.Records.{undecided, trying, committed, aborted}
+use Rattle.tables.specs.Records.{trying, committed, aborted}
 use Rattle.views.specs.View.{View}
-use Rattle.protocol.specs.Ghost.{Ghost, nodeOf, oldOf, parOf, oldChildOf, newChildOf, seqOf, sideOf, linkOf, Filled, InList, Past, Passed, FrozeTo, FrozeAll, Lost, Live, KnownWord, Seen, Final}
+use Rattle.protocol.specs.Ghost.{Ghost, nodeOf, oldOf, parOf, oldChildOf, newChildOf, seqOf, linkOf, Filled, InList, Past, FrozeAll, Lost, Live, KnownWord, Seen, Final}
 
 -- ---- a filled record
 
@@ -56,6 +55,7 @@ pub record RecordHolds (X : View) (G : Ghost) (r : ℕ) (f : Filling) : Type 0 w
   pub holds : (v : ℕ) → G .froze r v ≡ true → Live X r → X .update v .info .0 ≡ r
   -- its state
   pub tried-state : G .tried r ≡ true → trying ≤ X .state r
+  pub trying-tried : X .state r ≡ trying → G .tried r ≡ true
   pub most : X .state r ≤ aborted
   pub commits : X .state r ≡ committed → (G .tried r ≡ true) × FrozeAll G r f × Past X f
   pub aborts : X .state r ≡ aborted → G .tried r ≡ true → Lost X G r f

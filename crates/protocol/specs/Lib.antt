@@ -9,3 +9,6 @@ pub mod Rely
 pub mod RelyMore
 pub mod Helper
 pub mod Trees
+pub mod Linking
+pub mod HelpTurns
+pub mod HelpMoves

@@ -1,18 +1,17 @@
 -- A child CAS that succeeds keeps the shared invariant: all of the record's words stand, so nobody else touches its nodes.
-use Prim.Native.Nat.{ℕ, zero, suc, _+_, _≤_, _<_}
+use Prim.Native.Nat.{ℕ, _≤_, _<_}
 use mathlib.Core.Path.{_≡_, refl, sym, ap, _∙_, subst}
 use mathlib.Core.Logic.{_≢_, _⊎_, inl, inr}
-use mathlib.Core.Bool.{Bool, true, false, true≢false, false≢true}
+use mathlib.Core.Bool.{Bool, true, false, true≢false}
 use native.Mathlib.Omega.{arith}
 use native.Mathlib.Decide.{ℕ-discrete}
-use Rattle.laws.specs.Changed.{change, change-same, change-other, change-case, by-equal, changeOn, changeOn-same, changeOn-other, changeOn-case}
+use Rattle.laws.specs.Changed.{changeOn, changeOn-same, changeOn-other, changeOn-case}
 use Rattle.shapes.specs.declared.Update.{Update}
-use Rattle.shapes.specs.declared.MaybeNode.{MaybeNode}
-use Rattle.shapes.specs.declared.MaybeNode.the-variants.{Absent, At}
+use Rattle.shapes.specs.declared.MaybeNode.the-variants.{At}
 use Rattle.tables.specs.Names.{node}
 use Rattle.tables.specs.Records.{trying, committed, aborted}
 use Rattle.views.specs.View.{View, wKid}
-use Rattle.protocol.specs.Ghost.{Ghost, nodeOf, oldOf, parOf, oldChildOf, newChildOf, seqOf, sideOf, linkOf, Filled, InList, Past, Passed, FrozeTo, FrozeAll, Lost, Live, KnownWord, Seen, Final}
+use Rattle.protocol.specs.Ghost.{Ghost, nodeOf, oldOf, parOf, oldChildOf, newChildOf, sideOf, linkOf, Filled, InList, Past, FrozeAll, Live, Seen}
 use Rattle.protocol.specs.Invariant.{Planted, Held, Copied, RecordHolds, Holds}
 
 -- ---- one child changed
@@ -90,7 +89,7 @@ module _ (X : View) (G : Ghost) (H : Holds X G) (r : ℕ) (f : Filled X r) (t : 
           let linked : G .linked (oldChildOf (X .filling q)) ≡ true = rw (← Q .second) (Q .linked 2 (record { low = omega arith; high = Q .two })) in
           apart (oldChildOf (X .filling q)) (newChildOf (X .filling r)) linked new-fresh e
 
-  mine-past : Past X′ (X .filling r)
+  pub mine-past : Past X′ (X .filling r)
   mine-past = rw (kid-here (X .kid) (sideOf X (X .filling r)) (parOf (X .filling r)) (newChildOf (X .filling r))) (apart (oldChildOf (X .filling r)) (newChildOf (X .filling r)) old-linked new-fresh)
 
   open-was : (q : ℕ) → Filled X q → linkOf X′ (X .filling q) ≡ oldChildOf (X .filling q) → (q ≢ r) × (linkOf X (X .filling q) ≡ oldChildOf (X .filling q))
@@ -143,6 +142,7 @@ module _ (X : View) (G : Ghost) (H : Holds X G) (r : ℕ) (f : Filled X r) (t : 
           later = was .later;
           holds = was .holds;
           tried-state = was .tried-state;
+          trying-tried = was .trying-tried;
           most = was .most;
           commits = λ e. let c = was .commits e in (c .0, (λ k i. c .1 k i), past′ q (filled-was q g) (c .2));
           aborts = λ e d. let h = was .aborts e d in record { at = h .at; list = h .list; before = h .before; not = h .not; gone = h .gone };

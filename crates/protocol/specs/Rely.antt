@@ -1,18 +1,18 @@
 -- What every worker may count on when worker w takes a turn.
-use Prim.Native.Nat.{ℕ, zero, suc, _+_, _≤_, _<_}
-use mathlib.Core.Path.{_≡_, refl, sym, ap, _∙_, subst}
+use Prim.Native.Nat.{ℕ, suc, _≤_, _<_}
+use mathlib.Core.Path.{_≡_, refl, sym, ap, _∙_}
 use mathlib.Core.Logic.{_≢_, _⊎_, inl, inr}
-use mathlib.Core.Bool.{Bool, true, false, true≢false, false≢true}
+use mathlib.Core.Bool.{Bool, true, false, true≢false}
 use native.Mathlib.Omega.{arith}
 use native.Mathlib.Decide.{decLe}
-use Rattle.laws.specs.Changed.{change, change-same, change-other, change-case, by-equal}
+use Rattle.laws.specs.Changed.{change, change-other, change-case, by-equal}
 use Rattle.shapes.specs.declared.Update.{Update}
 use Rattle.shapes.specs.declared.Filling.{Filling}
 use Rattle.tables.specs.Names.{recordNo, update}
-use Rattle.tables.specs.Records.{undecided, trying, committed, aborted}
-use Rattle.views.specs.View.{View, wUpdate, wState, wKid, wRecord, wCounter}
-use Rattle.protocol.specs.Ghost.{Ghost, nodeOf, oldOf, parOf, oldChildOf, newChildOf, seqOf, sideOf, linkOf, Filled, InList, Past, Passed, FrozeTo, FrozeAll, Lost, Live, KnownWord, Seen, Final}
-use Rattle.protocol.specs.Invariant.{Planted, Held, Copied, RecordHolds, Holds}
+use Rattle.tables.specs.Records.{undecided, trying}
+use Rattle.views.specs.View.{View, wUpdate, wState, wRecord, wCounter}
+use Rattle.protocol.specs.Ghost.{Ghost, nodeOf, oldOf, Filled, InList, Past, Passed, FrozeTo, Lost, Live, KnownWord, Seen, Final}
+use Rattle.protocol.specs.Invariant.{Planted, Copied, RecordHolds, Holds}
 use Rattle.protocol.specs.Freeze.{gFroze, froze-more, stamp-up}
 use Rattle.protocol.specs.Freeze as freeze
 use Rattle.protocol.specs.SetState.{gTried, Sets}
@@ -125,7 +125,7 @@ counter-holds X G c H = record {
     kind′ r (inr d) = inr (record { four = d .four; side = d .side; inner = d .inner; sibling = λ h. d .sibling (record { open′ = h .open′; word = h .word }); copy = λ e h. d .copy e (record { open′ = h .open′; word = h .word }); kind = d .kind; phase = d .phase })
 
     again : (r : ℕ) → RecordHolds X G r (X .filling r) → RecordHolds (wCounter X c) G r (X .filling r)
-    again r was = record { old-final = was .old-final; old-seen = λ j i. seen′ _ _ (was .old-seen j i); old-stamp = was .old-stamp; frozen = was .frozen; in-order = was .in-order; later = was .later; holds = was .holds; tried-state = was .tried-state; most = was .most; commits = was .commits; aborts = λ e t. let h = was .aborts e t in record { at = h .at; list = h .list; before = h .before; not = h .not; gone = h .gone }; two = was .two; most-listed = was .most-listed; first = was .first; second = was .second; linked = was .linked; apart = was .apart; inner = was .inner; old-phase = was .old-phase; new-used = was .new-used; made = was .made; prev = was .prev; new-phase = was .new-phase; fresh = was .fresh; kind = kind′ r (was .kind) }
+    again r was = record { old-final = was .old-final; old-seen = λ j i. seen′ _ _ (was .old-seen j i); old-stamp = was .old-stamp; frozen = was .frozen; in-order = was .in-order; later = was .later; holds = was .holds; tried-state = was .tried-state; trying-tried = was .trying-tried; most = was .most; commits = was .commits; aborts = λ e t. let h = was .aborts e t in record { at = h .at; list = h .list; before = h .before; not = h .not; gone = h .gone }; two = was .two; most-listed = was .most-listed; first = was .first; second = was .second; linked = was .linked; apart = was .apart; inner = was .inner; old-phase = was .old-phase; new-used = was .new-used; made = was .made; prev = was .prev; new-phase = was .new-phase; fresh = was .fresh; kind = kind′ r (was .kind) }
 
 -- ---- a freeze CAS that succeeds
 

@@ -1,23 +1,19 @@
 -- What every worker may count on when a child is linked, and when nodes and records are taken or a copy is made.
-use Prim.Native.Nat.{ℕ, zero, suc, _+_, _≤_, _<_}
-use mathlib.Core.Path.{_≡_, refl, sym, ap, _∙_, subst}
-use mathlib.Core.Logic.{_≢_, _⊎_, inl, inr}
-use mathlib.Core.Bool.{Bool, true, false, true≢false, false≢true}
+use Prim.Native.Nat.{ℕ, _≤_, _<_}
+use mathlib.Core.Path.{_≡_, refl, sym, ap, _∙_}
+use mathlib.Core.Logic.{_≢_, inl, inr}
+use mathlib.Core.Bool.{Bool, true, false, true≢false}
 use native.Mathlib.Omega.{arith}
-use Rattle.laws.specs.Changed.{change, by-equal}
-use Rattle.shapes.specs.declared.Update.{Update}
+use Rattle.laws.specs.Changed.{by-equal}
 use Rattle.shapes.specs.declared.Filling.{Filling}
-use Rattle.shapes.specs.declared.MaybeNode.the-variants.{Absent, At}
-use Rattle.tables.specs.Names.{node}
-use Rattle.tables.specs.Records.{trying}
 use Rattle.views.specs.View.{View, wKid}
-use Rattle.protocol.specs.Ghost.{Ghost, nodeOf, oldOf, parOf, oldChildOf, newChildOf, seqOf, sideOf, linkOf, Filled, InList, Past, Passed, FrozeTo, FrozeAll, Lost, Live, KnownWord, Seen, Final}
+use Rattle.protocol.specs.Ghost.{Ghost, nodeOf, parOf, oldChildOf, newChildOf, sideOf, linkOf, Filled, InList, FrozeAll, Live}
 use Rattle.protocol.specs.Invariant.{RecordHolds, Holds}
 use Rattle.protocol.specs.Link.{kid-other, gLinked}
 use Rattle.protocol.specs.Link as linking
 use Rattle.protocol.specs.Frame.{Agrees}
 use Rattle.protocol.specs.Frame as frame
-use Rattle.protocol.specs.Rely.{Unseen, Rely}
+use Rattle.protocol.specs.Rely.{Rely}
 
 module _ (w : ℕ) (X : View) (G : Ghost) (H : Holds X G) (r : ℕ) (f : Filled X r) (t : G .tried r ≡ true) (all : FrozeAll G r (X .filling r)) (hit : linkOf X (X .filling r) ≡ oldChildOf (X .filling r))
     (linked′ : ℕ → Bool) (more : (n : ℕ) → G .linked n ≡ true → linked′ n ≡ true) (only : (n : ℕ) → G .maker n ≢ r → linked′ n ≡ G .linked n) where

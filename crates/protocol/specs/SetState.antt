@@ -1,14 +1,14 @@
 -- A change of a record's state keeps the shared invariant: to TRY or ABORT from ⊥, to COMMIT with all frozen and the child CAS past, to ABORT when lost.
-use Prim.Native.Nat.{ℕ, zero, suc, _+_, _≤_, _<_}
-use mathlib.Core.Path.{_≡_, refl, sym, ap, _∙_, subst}
+use Prim.Native.Nat.{ℕ, _≤_, _<_}
+use mathlib.Core.Path.{_≡_, refl, sym, _∙_}
 use mathlib.Core.Logic.{_≢_, _⊎_, inl, inr}
-use mathlib.Core.Bool.{Bool, true, false, true≢false, false≢true}
+use mathlib.Core.Bool.{Bool, true, true≢false}
 use native.Mathlib.Omega.{arith}
 use Rattle.laws.specs.Changed.{change, change-same, change-other, change-case, by-equal}
 use Rattle.shapes.specs.declared.Update.{Update}
 use Rattle.tables.specs.Records.{undecided, trying, committed, aborted}
 use Rattle.views.specs.View.{View, wState}
-use Rattle.protocol.specs.Ghost.{Ghost, nodeOf, oldOf, parOf, oldChildOf, newChildOf, seqOf, sideOf, linkOf, Filled, InList, Past, Passed, FrozeTo, FrozeAll, Lost, Live, KnownWord, Seen, Final}
+use Rattle.protocol.specs.Ghost.{Ghost, Filled, Past, FrozeAll, Lost, Live, Seen}
 use Rattle.protocol.specs.Invariant.{Planted, Held, Copied, RecordHolds, Holds}
 
 abbrev pub gTried : Ghost → (ℕ → Bool) → Ghost
@@ -21,6 +21,7 @@ pub record Sets (X : View) (G : Ghost) (r v : ℕ) (t : ℕ → Bool) : Type 0 w
   pub final : committed ≤ X .state r → committed ≤ v
   pub most : v ≤ aborted
   pub tried : t r ≡ true → trying ≤ v
+  pub tries : v ≡ trying → t r ≡ true
   pub commits : v ≡ committed → (t r ≡ true) × FrozeAll G r (X .filling r) × Past X (X .filling r)
   pub aborts : v ≡ aborted → t r ≡ true → Lost X G r (X .filling r)
   pub other : (q : ℕ) → q ≢ r → t q ≡ G .tried q
@@ -65,6 +66,7 @@ module _ (X : View) (G : Ghost) (H : Holds X G) (r v : ℕ) (t : ℕ → Bool) (
         later = was .later;
         holds = λ y h live. was .holds y h (live-was q live);
         tried-state = by-equal q r (λ e. rw (e, change-same (X .state) r v) (S .tried)) (λ e. rw (S .other q e, change-other (X .state) r v q e) (was .tried-state));
+        trying-tried = by-equal q r (λ e h. rw e (S .tries (sym (change-same (X .state) r v) ∙ (rw e at h)))) (λ e h. S .other q e ∙ was .trying-tried (sym (change-other (X .state) r v q e) ∙ h));
         most = change-case (λ s. s ≤ aborted) (X .state) r v q (λ e. S .most) (λ e. was .most);
         commits = by-equal q r
             (λ e h. rw e (let c = S .commits (sym (change-same (X .state) r v) ∙ (rw e at h)) in (c .0, (λ k i. c .1 k i), c .2)))
@@ -117,16 +119,16 @@ module _ (X : View) (G : Ghost) (H : Holds X G) (r : ℕ) (f : Filled X r) where
 
   -- line 113
   pub sets-try : X .state r ≡ undecided → Sets X G r trying (change (G .tried) r true)
-  sets-try e = record { filled = f; live = λ _. omega arith; final = λ h. absurd (omega arith); most = omega arith; tried = λ _. omega arith; commits = λ z. absurd (omega arith); aborts = λ z. absurd (omega arith); other = λ q ne. change-other (G .tried) r true q ne }
+  sets-try e = record { filled = f; live = λ _. omega arith; final = λ h. absurd (omega arith); most = omega arith; tried = λ _. omega arith; tries = λ _. change-same (G .tried) r true; commits = λ z. absurd (omega arith); aborts = λ z. absurd (omega arith); other = λ q ne. change-other (G .tried) r true q ne }
 
   -- line 112
   pub sets-early : X .state r ≡ undecided → Sets X G r aborted (G .tried)
-  sets-early e = record { filled = f; live = λ z. absurd (omega arith); final = λ _. omega arith; most = omega arith; tried = λ _. omega arith; commits = λ z. absurd (omega arith); aborts = λ _ t. let one : trying ≤ X .state r = R .tried-state t in absurd (omega arith); other = λ q ne. refl }
+  sets-early e = record { filled = f; live = λ z. absurd (omega arith); final = λ _. omega arith; most = omega arith; tried = λ _. omega arith; tries = λ z. absurd (omega arith); commits = λ z. absurd (omega arith); aborts = λ _ t. let one : trying ≤ X .state r = R .tried-state t in absurd (omega arith); other = λ q ne. refl }
 
   -- line 124
   pub sets-commit : G .tried r ≡ true → FrozeAll G r (X .filling r) → Past X (X .filling r) → Sets X G r committed (G .tried)
-  sets-commit t all past = record { filled = f; live = λ z. absurd (omega arith); final = λ _. omega arith; most = omega arith; tried = λ _. omega arith; commits = λ _. (t, all, past); aborts = λ z. absurd (omega arith); other = λ q ne. refl }
+  sets-commit t all past = record { filled = f; live = λ z. absurd (omega arith); final = λ _. omega arith; most = omega arith; tried = λ _. omega arith; tries = λ z. absurd (omega arith); commits = λ _. (t, all, past); aborts = λ z. absurd (omega arith); other = λ q ne. refl }
 
   -- line 126
   pub sets-abort : Lost X G r (X .filling r) → Sets X G r aborted (G .tried)
-  sets-abort lost = record { filled = f; live = λ z. absurd (omega arith); final = λ _. omega arith; most = omega arith; tried = λ _. omega arith; commits = λ z. absurd (omega arith); aborts = λ _ t. lost; other = λ q ne. refl }
+  sets-abort lost = record { filled = f; live = λ z. absurd (omega arith); final = λ _. omega arith; most = omega arith; tried = λ _. omega arith; tries = λ z. absurd (omega arith); commits = λ z. absurd (omega arith); aborts = λ _ t. lost; other = λ q ne. refl }

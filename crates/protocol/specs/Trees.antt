@@ -1,30 +1,24 @@
 -- The trees of versions in the view, and what a turn does to them: nothing, or the link of one child.
-use Prim.Native.Nat.{ℕ, zero, suc, _+_, _≤_, _<_}
+use Prim.Native.Nat.{ℕ}
 use mathlib.Core.Path.{_≡_, refl, sym, ap, _∙_, subst}
-use mathlib.Core.Logic.{_≢_, _⊎_, inl, inr}
+use mathlib.Core.Logic.{_⊎_, inl, inr}
 use mathlib.Core.List.{List}
-use mathlib.Core.Bool.{Bool, true, false, true≢false, false≢true, not}
+use mathlib.Core.Bool.{Bool, true, false, true≢false, not}
 use native.Mathlib.Omega.{arith}
 use lib.Dec.{eqb}
 use borrow.Author.Tests.{eq-eqb, ne-eqb, eqb-true}
-use Rattle.laws.specs.Changed.{changeOn, changeOn-other}
-use Rattle.shapes.specs.declared.NodeNo.{NodeNo}
-use Rattle.shapes.specs.declared.MaybeNode.{MaybeNode}
-use Rattle.shapes.specs.declared.MaybeNode.the-variants.{Absent, At}
 use Rattle.tables.specs.NodeWrites.{Fixed}
-use Rattle.trees.specs.Members.{Mem, All}
-use Rattle.trees.specs.Shape.{Shape, both, In, Once, Free}
-use Rattle.trees.specs.Grown.{Grown}
+use Rattle.trees.specs.Members.{All}
+use Rattle.trees.specs.Shape.{Shape, Once, Free}
 use Rattle.trees.specs.Version.{Store, setKid, IsTree}
 use Rattle.trees.specs.Frame.{Closed, Agree, tree-in, tree-frame}
 use Rattle.trees.specs.Change.{Fits, tree-changed}
-use Rattle.trees.specs.Updates.{Insert, Delete, insert-fits, delete-fits}
-use Rattle.trees.specs.Scanning.{Stand, at, between, Scanning}
+use Rattle.trees.specs.Scanning.{Stand, Scanning}
 use Rattle.trees.specs.ScanChange.{scan-changed}
 use Rattle.trees.specs.ScanFrame.{StandIn, scan-within, scan-frame}
-use Rattle.views.specs.View.{View, wKid}
-use Rattle.protocol.specs.Ghost.{Ghost, nodeOf, oldOf, parOf, oldChildOf, newChildOf, seqOf, sideOf, linkOf, Filled, InList, FrozeAll, Live}
-use Rattle.protocol.specs.Invariant.{Planted, Held, Copied, RecordHolds, Holds}
+use Rattle.views.specs.View.{View}
+use Rattle.protocol.specs.Ghost.{Ghost}
+use Rattle.protocol.specs.Invariant.{Holds}
 use Rattle.protocol.specs.Link as linking
 
 -- the nodes as the trees see them
