@@ -22,7 +22,7 @@ fn reaches182(v: Locals, gp: MaybeNode) -> Decision
     let MaybeNode::At(_) = gp else {
         return Decision::Crooked;
     };
-    if tables::same_node(p, ROOT) {
+    if fields::same_node(p, ROOT) {
         Decision::Crooked
     } else {
         hand::go_to(v, Place::Sibling182)
@@ -34,7 +34,7 @@ fn validated(totals: Totals, nodes: &[u32], kind: Kind, k: Key, v: Locals) -> De
 {
     let l = v.l;
     let gp = v.gp;
-    let key = tables::key_at(nodes, l);
+    let key = fields::key_at(nodes, l);
     let present = key == k.0 as u64;
     match kind {
         Kind::Insert => {
@@ -67,12 +67,12 @@ pub fn word66(totals: Totals, nodes: &[u32], kind: Kind, k: Key, v: Locals) -> D
 {
     let at = v.p;
     let pup = v.pup;
-    let MaybeNode::At(p) = tables::as_parent(nodes, MaybeNode::At(at)) else {
+    let MaybeNode::At(p) = fields::as_parent(nodes, MaybeNode::At(at)) else {
         return Decision::Crooked;
     };
-    let word = tables::update_at(nodes, p);
-    if tables::same_update(word, pup) {
-        if tables::same_node(p, ROOT) {
+    let word = fields::update_at(nodes, p);
+    if fields::same_update(word, pup) {
+        if fields::same_node(p, ROOT) {
             validated(totals, nodes, kind, k, v)
         } else {
             hand::go_to(v, Place::Grand66)
@@ -87,11 +87,11 @@ pub fn grand66(totals: Totals, nodes: &[u32], kind: Kind, k: Key, v: Locals) -> 
 {
     let at = v.gp;
     let gpup = v.gpup;
-    let MaybeNode::At(gp) = tables::as_parent(nodes, at) else {
+    let MaybeNode::At(gp) = fields::as_parent(nodes, at) else {
         return Decision::Crooked;
     };
-    let word = tables::update_at(nodes, gp);
-    if tables::same_update(word, gpup) {
+    let word = fields::update_at(nodes, gp);
+    if fields::same_update(word, gpup) {
         validated(totals, nodes, kind, k, v)
     } else {
         hand::retry()

@@ -22,7 +22,7 @@ fn held(totals: Totals, nodes: &[u32], v: Locals, a: Link) -> Decision
     match a {
         Link::Leaf64 => {
             let next = hand::with_pup(v, up);
-            if tables::same_node(p, ROOT) {
+            if fields::same_node(p, ROOT) {
                 hand::go_to(next, Place::Word66)
             } else {
                 hand::go_to(next, Place::Link(Link::Parent65, LinkStep::Word52))
@@ -62,7 +62,7 @@ pub fn link_step(
     ensures { λ r. ⌜ r ≡ linkStep (tables totals (now (nodes .entry)) (now (records .entry))) k v a b ⌝ }
 {
     let up = v.up;
-    let parent = tables::as_parent(nodes, seek::link_parent(v, a));
+    let parent = fields::as_parent(nodes, seek::link_parent(v, a));
     let child = seek::link_child(nodes, v, a);
     let left = seek::link_left(nodes, k, v, a);
     let came = seek::link_of(nodes, records, parent, child, left, up, b);

@@ -15,11 +15,11 @@ pub fn sibling182(totals: Totals, nodes: &[u32], v: Locals) -> Decision
 {
     let at = v.p;
     let seq = v.seq;
-    let MaybeNode::At(p) = tables::as_parent(nodes, MaybeNode::At(at)) else {
+    let MaybeNode::At(p) = fields::as_parent(nodes, MaybeNode::At(at)) else {
         return Decision::Crooked;
     };
     let left = seek::sibling_left(nodes, v);
-    let MaybeNode::At(c) = tables::read_child(totals.nodes, nodes, p, left, seq) else {
+    let MaybeNode::At(c) = fields::read_child(totals.nodes, nodes, p, left, seq) else {
         return Decision::Crooked;
     };
     hand::go_to(
@@ -34,13 +34,13 @@ pub fn copy_word(nodes: &[u32], v: Locals, left: bool) -> Decision
 {
     let sibling = v.sibling;
     let made = v.made;
-    let MaybeNode::At(s) = tables::as_parent(nodes, MaybeNode::At(sibling)) else {
+    let MaybeNode::At(s) = fields::as_parent(nodes, MaybeNode::At(sibling)) else {
         return Decision::Crooked;
     };
-    let MaybeNode::At(copy) = tables::as_parent(nodes, MaybeNode::At(made)) else {
+    let MaybeNode::At(copy) = fields::as_parent(nodes, MaybeNode::At(made)) else {
         return Decision::Crooked;
     };
-    let effect = Effect::CopyChild(copy, left, tables::child_at(nodes, s, left));
+    let effect = Effect::CopyChild(copy, left, fields::child_at(nodes, s, left));
     if left {
         hand::decide_to(effect, v, Place::CopyRight)
     } else {
@@ -52,7 +52,7 @@ pub fn word189(nodes: &[u32], v: Locals) -> Decision
     ensures { λ r. ⌜ r ≡ word189 (now (nodes .entry)) v ⌝ }
 {
     let sibling = v.sibling;
-    let word = tables::update_at(nodes, sibling);
+    let word = fields::update_at(nodes, sibling);
     hand::go_to(hand::with_sup(v, word), Place::Leaf190)
 }
 
@@ -61,6 +61,6 @@ pub fn leaf_word(nodes: &[u32], v: Locals) -> Decision
     ensures { λ r. ⌜ r ≡ leafWord (now (nodes .entry)) v ⌝ }
 {
     let l = v.l;
-    let word = tables::update_at(nodes, l);
+    let word = fields::update_at(nodes, l);
     hand::go_to(hand::with_lup(v, word), Place::Frozen97)
 }

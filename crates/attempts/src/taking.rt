@@ -50,7 +50,7 @@ pub fn take_copy(totals: Totals, nodes: &[u32], v: Locals) -> Decision
     if room(totals, FOR_DELETE) {
         let taken = hand::with_taken(v, NodeNo(totals.nodes), RecordNo(totals.records));
         let effect = Effect::TakeCopy(sibling, p, seq);
-        if tables::is_internal(nodes, sibling) {
+        if fields::is_internal(nodes, sibling) {
             hand::decide_to(effect, taken, Place::CopyLeft)
         } else {
             hand::decide_to(effect, taken, Place::Word189)

@@ -3,14 +3,14 @@ mod homes; // which places are whose
 mod workers; // a worker, all workers
 
 use crate::workers::workers_ok;
+use fields::lent_ok;
+use fields::sizes_ok;
 use rows::dummy_ok;
 use rows::nodes_ok;
 use rows::records_ok;
 use rows::root_ok;
 use rows::used_ok;
 use shapes::Board;
-use tables::lent_ok;
-use tables::sizes_ok;
 ghost use mathlib.Core.Path.{_≡_};
 ghost use Rattle.tables.specs.World.{world};
 ghost use Rattle.sound.specs.Sound.{soundOf};

@@ -1,4 +1,12 @@
 // What an effect does to the tables: the only code that writes shared words.
+use fields::key_value;
+use fields::kind_at;
+use fields::new_node;
+use fields::new_record;
+use fields::rank_at;
+use fields::set_child;
+use fields::set_state;
+use fields::set_update;
 use shapes::Effect;
 use shapes::Entry;
 use shapes::Filling;
@@ -10,14 +18,6 @@ use shapes::Rank;
 use shapes::RecordNo;
 use shapes::Totals;
 use shapes::Update;
-use tables::key_value;
-use tables::kind_at;
-use tables::new_node;
-use tables::new_record;
-use tables::rank_at;
-use tables::set_child;
-use tables::set_state;
-use tables::set_update;
 ghost use mathlib.Core.Path.{_≡_};
 ghost use Prim.Native.Nat.{_≤_};
 ghost use Rattle.shapes.specs.Numbers.{mostN};

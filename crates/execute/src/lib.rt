@@ -119,7 +119,7 @@ fn fill_insert(nodes: &[u32], v: Locals) -> Decision
 {
     let p = v.p;
     let info = v.info;
-    let MaybeNode::At(_) = tables::as_parent(nodes, MaybeNode::At(p)) else {
+    let MaybeNode::At(_) = fields::as_parent(nodes, MaybeNode::At(p)) else {
         return Decision::Crooked;
     };
     let filling = insert_filling(v);
@@ -136,14 +136,14 @@ fn fill_delete(nodes: &[u32], v: Locals) -> Decision
     let info = v.info;
     let made = v.made;
     let sibling = v.sibling;
-    let MaybeNode::At(g) = tables::as_parent(nodes, gp) else {
+    let MaybeNode::At(g) = fields::as_parent(nodes, gp) else {
         return Decision::Crooked;
     };
-    let MaybeNode::At(_) = tables::as_parent(nodes, MaybeNode::At(p)) else {
+    let MaybeNode::At(_) = fields::as_parent(nodes, MaybeNode::At(p)) else {
         return Decision::Crooked;
     };
-    let copied = tables::kind_at(nodes, made);
-    let kind = tables::kind_at(nodes, sibling);
+    let copied = fields::kind_at(nodes, made);
+    let kind = fields::kind_at(nodes, sibling);
     if copied == kind {
         let filling = delete_filling(v, g);
         let next = hand::holding_record(info);
@@ -178,7 +178,7 @@ pub fn frozen97(nodes: &[u32], records: &[u32], o: Kind, v: Locals) -> Decision
     if i < count {
         return hand::go_to(hand::with_i(v, i + 1), Place::Frozen97);
     }
-    if tables::fillable(records, info) {
+    if fields::fillable(records, info) {
         fills(nodes, o, v)
     } else {
         Decision::Crooked
@@ -191,8 +191,8 @@ pub fn state98(records: &[u32], o: Kind, v: Locals) -> Decision
 {
     let u = old_update(o, v, v.i);
     let info = u.info;
-    let state = tables::state_at(records, info);
-    if tables::in_progress(state) {
+    let state = fields::state_at(records, info);
+    if fields::in_progress(state) {
         hand::help_then_retry(info)
     } else {
         hand::retry()
@@ -204,12 +204,12 @@ pub fn freeze103(nodes: &[u32], records: &[u32], v: Locals) -> Decision
     ensures { λ d. ⌜ d ≡ freeze103 (now (nodes .entry)) (now (records .entry)) v ⌝ }
 {
     let info = v.info;
-    if tables::helpable(records, info) {
-        let e = tables::entry_at(records, info, 1);
+    if fields::helpable(records, info) {
+        let e = fields::entry_at(records, info, 1);
         let x = e.node;
         let old = e.old;
-        let word = tables::update_at(nodes, x);
-        if tables::same_update(word, old) {
+        let word = fields::update_at(nodes, x);
+        if fields::same_update(word, old) {
             let frozen = Update { mark: FLAG, info };
             let next = hand::holding_record(info);
             hand::decide_to(

@@ -236,9 +236,9 @@ pub fn help_then_retry(r: RecordNo) -> Decision
 pub fn is_frozen(rs: &[u32], u: Update) -> bool
     ensures { λ r. ⌜ r ≡ frozen (now (rs .entry)) u ⌝ }
 {
-    let state = tables::state_at(rs, u.info);
+    let state = fields::state_at(rs, u.info);
     if u.mark == 0 {
-        return tables::in_progress(state);
+        return fields::in_progress(state);
     }
     state < 3
 }

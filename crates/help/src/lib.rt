@@ -39,7 +39,7 @@ fn reads(s: HelpStep) -> HelpMove
 fn counter111(totals: Totals, records: &[u32], r: RecordNo) -> HelpMove
     ensures { λ m. ⌜ m ≡ counter111 totals (now (records .entry)) r ⌝ }
 {
-    let seq = tables::seq_at(records, r);
+    let seq = fields::seq_at(records, r);
     if totals.counter == seq {
         reads(HelpStep::Try113)
     } else {
@@ -51,7 +51,7 @@ fn counter111(totals: Totals, records: &[u32], r: RecordNo) -> HelpMove
 fn state_cas(records: &[u32], r: RecordNo, s: u32) -> Effect
     ensures { λ e. ⌜ e ≡ stateCas (now (records .entry)) r s ⌝ }
 {
-    let state = tables::state_at(records, r);
+    let state = fields::state_at(records, r);
     if state == UNDECIDED {
         Effect::SetState(r, s)
     } else {
@@ -63,7 +63,7 @@ fn state_cas(records: &[u32], r: RecordNo, s: u32) -> Effect
 fn state114(records: &[u32], r: RecordNo) -> HelpMove
     ensures { λ m. ⌜ m ≡ state114 (now (records .entry)) r ⌝ }
 {
-    let state = tables::state_at(records, r);
+    let state = fields::state_at(records, r);
     if state == TRYING {
         HelpMove::Goes(Effect::Nothing, SECOND, HelpStep::Freeze117)
     } else {
@@ -75,11 +75,11 @@ fn state114(records: &[u32], r: RecordNo) -> HelpMove
 fn freeze_cas(nodes: &[u32], records: &[u32], r: RecordNo, i: u32) -> Effect
     ensures { λ q. ⌜ q ≡ freezeCas (now (nodes .entry)) (now (records .entry)) r i ⌝ }
 {
-    let e = tables::entry_at(records, r, i);
+    let e = fields::entry_at(records, r, i);
     let x = e.node;
     let old = e.old;
-    let word = tables::update_at(nodes, x);
-    if tables::same_update(word, old) {
+    let word = fields::update_at(nodes, x);
+    if fields::same_update(word, old) {
         Effect::Freeze(
             x,
             Update {
@@ -96,12 +96,12 @@ fn freeze_cas(nodes: &[u32], records: &[u32], r: RecordNo, i: u32) -> Effect
 fn frozen119(nodes: &[u32], records: &[u32], r: RecordNo, i: u32) -> HelpMove
     ensures { λ m. ⌜ m ≡ frozen119 (now (nodes .entry)) (now (records .entry)) r i ⌝ }
 {
-    let e = tables::entry_at(records, r, i);
+    let e = fields::entry_at(records, r, i);
     let x = e.node;
-    let word = tables::update_at(nodes, x);
+    let word = fields::update_at(nodes, x);
     let info = word.info;
-    if tables::same_record(info, r) {
-        let count = tables::count_at(records, r);
+    if fields::same_record(info, r) {
+        let count = fields::count_at(records, r);
         if i < count {
             HelpMove::Goes(Effect::Nothing, i + 1, HelpStep::Freeze117)
         } else {
@@ -116,11 +116,11 @@ fn frozen119(nodes: &[u32], records: &[u32], r: RecordNo, i: u32) -> HelpMove
 fn cas_child(nodes: &[u32], parent: NodeNo, old: NodeNo, new: NodeNo) -> Effect
     ensures { λ e. ⌜ e ≡ casChild (now (nodes .entry)) parent old new ⌝ }
 {
-    let key = tables::key_at(nodes, new);
-    let above = tables::key_at(nodes, parent);
+    let key = fields::key_at(nodes, new);
+    let above = fields::key_at(nodes, parent);
     let left = key < above;
-    let child = tables::child_at(nodes, parent, left);
-    if tables::same_node(child, old) {
+    let child = fields::child_at(nodes, parent, left);
+    if fields::same_node(child, old) {
         Effect::Link(parent, left, new)
     } else {
         Effect::Nothing
@@ -131,9 +131,9 @@ fn cas_child(nodes: &[u32], parent: NodeNo, old: NodeNo, new: NodeNo) -> Effect
 fn child123(nodes: &[u32], records: &[u32], r: RecordNo) -> Effect
     ensures { λ e. ⌜ e ≡ casChild (now (nodes .entry)) (parAt (now (records .entry)) r) (oldChildAt (now (records .entry)) r) (newChildAt (now (records .entry)) r) ⌝ }
 {
-    let par = tables::par_at(records, r);
-    let old = tables::old_child_at(records, r);
-    let new = tables::new_child_at(records, r);
+    let par = fields::par_at(records, r);
+    let old = fields::old_child_at(records, r);
+    let new = fields::new_child_at(records, r);
     cas_child(nodes, par, old, new)
 }
 
@@ -141,7 +141,7 @@ fn child123(nodes: &[u32], records: &[u32], r: RecordNo) -> Effect
 fn state125(records: &[u32], r: RecordNo) -> HelpMove
     ensures { λ m. ⌜ m ≡ state125 (now (records .entry)) r ⌝ }
 {
-    let state = tables::state_at(records, r);
+    let state = fields::state_at(records, r);
     if state == TRYING {
         reads(HelpStep::Abort126)
     } else {
@@ -179,7 +179,7 @@ fn help_step(
         ),
         HelpStep::State125 => state125(records, r),
         HelpStep::Abort126 => HelpMove::Goes(Effect::SetState(r, ABORTED), 0, HelpStep::State127),
-        HelpStep::State127 => HelpMove::Done(tables::state_at(records, r) == COMMITTED),
+        HelpStep::State127 => HelpMove::Done(fields::state_at(records, r) == COMMITTED),
     }
 }
 
@@ -194,7 +194,7 @@ pub fn help_of(
 ) -> HelpMove
     ensures { λ m. ⌜ m ≡ helpOf (tables totals (now (nodes .entry)) (now (records .entry))) r i b ⌝ }
 {
-    if tables::helpable(records, r) {
+    if fields::helpable(records, r) {
         help_step(totals, nodes, records, r, i, b)
     } else {
         HelpMove::Crooked

@@ -29,7 +29,7 @@ fn one_less(n: u32) -> u32
 pub fn top(totals: Totals, pending: &[u32], w: u32, n: u32) -> NodeNo
     ensures { λ r. ⌜ r ≡ node (getD (now (pending .entry)) (spot totals w (n - 1)) 0) ⌝ }
 {
-    NodeNo(tables::get(pending, spot(totals, w, one_less(n))))
+    NodeNo(fields::get(pending, spot(totals, w, one_less(n))))
 }
 
 pub fn pending_left(n: u32, change: PendingChange) -> u32
@@ -60,7 +60,7 @@ pub fn push(pending: &mut [u32], at: usize, change: PendingChange)
     match change {
         PendingChange::Keep => {}
         PendingChange::Push(x) => {
-            tables::put(pending, at, x.0);
+            fields::put(pending, at, x.0);
         }
         PendingChange::Pop => {}
     }
@@ -80,7 +80,7 @@ pub fn add(found: &mut [i32], at: usize, change: FoundChange)
     match change {
         FoundChange::Keep => {}
         FoundChange::Add(k) => {
-            put_key(found, at, tables::number_of(k));
+            put_key(found, at, fields::number_of(k));
         }
     }
 }

@@ -1,4 +1,5 @@
 // Numbers that refer to used ones, phases no later than Counter.
+use fields::between;
 use shapes::MaybeNode;
 use shapes::NodeNo;
 use shapes::RecordNo;
@@ -6,7 +7,6 @@ use shapes::Totals;
 use shapes::Update;
 use tables::LAST_PHASE;
 use tables::MARK;
-use tables::between;
 ghost use mathlib.Core.Path.{_≡_};
 ghost use Rattle.sound.specs.Sound.{usedNode, usedMaybe, usedRecord, wordOk, phaseOk, usedOk};
 

@@ -15,7 +15,7 @@ ghost use Rattle.steps.specs.Search.{goesLeft, landed, search39};
 pub fn goes_left(nodes: &[u32], k: Key, x: NodeNo) -> bool
     ensures { λ r. ⌜ r ≡ goesLeft (now (nodes .entry)) k x ⌝ }
 {
-    let key = tables::key_at(nodes, x);
+    let key = fields::key_at(nodes, x);
     (k.0 as u64) < key
 }
 
@@ -23,7 +23,7 @@ pub fn goes_left(nodes: &[u32], k: Key, x: NodeNo) -> bool
 fn landed(nodes: &[u32], v: Locals, c: NodeNo) -> Decision
     ensures { λ r. ⌜ r ≡ landed (now (nodes .entry)) v c ⌝ }
 {
-    if tables::is_internal(nodes, c) {
+    if fields::is_internal(nodes, c) {
         hand::go_to(hand::down_to(v, c), Place::Search39)
     } else {
         hand::go_to(
@@ -38,11 +38,11 @@ pub fn search39(totals: Totals, nodes: &[u32], k: Key, v: Locals) -> Decision
 {
     let at = v.p;
     let seq = v.seq;
-    let MaybeNode::At(p) = tables::as_parent(nodes, MaybeNode::At(at)) else {
+    let MaybeNode::At(p) = fields::as_parent(nodes, MaybeNode::At(at)) else {
         return Decision::Crooked;
     };
     let left = goes_left(nodes, k, p);
-    let MaybeNode::At(c) = tables::read_child(totals.nodes, nodes, p, left, seq) else {
+    let MaybeNode::At(c) = fields::read_child(totals.nodes, nodes, p, left, seq) else {
         return Decision::Crooked;
     };
     landed(nodes, v, c)

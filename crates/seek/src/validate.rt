@@ -16,7 +16,7 @@ fn word52(nodes: &[u32], parent: MaybeNode) -> LinkMove
     let MaybeNode::At(x) = parent else {
         return LinkMove::Crooked;
     };
-    LinkMove::Goes(LinkStep::State53, tables::update_at(nodes, x))
+    LinkMove::Goes(LinkStep::State53, fields::update_at(nodes, x))
 }
 
 fn state53(records: &[u32], up: Update) -> LinkMove
@@ -39,8 +39,8 @@ fn child57(nodes: &[u32], parent: MaybeNode, child: MaybeNode, left: bool) -> Li
     let MaybeNode::At(c) = child else {
         return LinkMove::Crooked;
     };
-    let newest = tables::child_at(nodes, x, left);
-    if tables::same_node(newest, c) {
+    let newest = fields::child_at(nodes, x, left);
+    if fields::same_node(newest, c) {
         LinkMove::Holds
     } else {
         LinkMove::Fails
@@ -88,7 +88,7 @@ fn copy_child(nodes: &[u32], copy: MaybeNode, left: bool) -> MaybeNode
     let MaybeNode::At(x) = copy else {
         return MaybeNode::Absent;
     };
-    MaybeNode::At(tables::child_at(nodes, x, left))
+    MaybeNode::At(fields::child_at(nodes, x, left))
 }
 
 pub fn link_child(nodes: &[u32], v: Locals, a: Link) -> MaybeNode
@@ -102,8 +102,8 @@ pub fn link_child(nodes: &[u32], v: Locals, a: Link) -> MaybeNode
         Link::Leaf64 => MaybeNode::At(l),
         Link::Parent65 => MaybeNode::At(p),
         Link::Sibling183 => MaybeNode::At(sibling),
-        Link::Left187 => copy_child(nodes, tables::as_parent(nodes, MaybeNode::At(made)), true),
-        Link::Right188 => copy_child(nodes, tables::as_parent(nodes, MaybeNode::At(made)), false),
+        Link::Left187 => copy_child(nodes, fields::as_parent(nodes, MaybeNode::At(made)), true),
+        Link::Right188 => copy_child(nodes, fields::as_parent(nodes, MaybeNode::At(made)), false),
     }
 }
 
@@ -113,8 +113,8 @@ pub fn sibling_left(nodes: &[u32], v: Locals) -> bool
 {
     let p = v.p;
     let l = v.l;
-    let parent = tables::key_at(nodes, p);
-    let leaf = tables::key_at(nodes, l);
+    let parent = fields::key_at(nodes, p);
+    let leaf = fields::key_at(nodes, l);
     parent <= leaf
 }
 

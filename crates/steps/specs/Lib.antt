@@ -15,10 +15,3 @@ pub mod Kept
 pub mod Hands
 pub mod Deletes
 pub mod Errors
-pub mod Helping
-pub mod Corners
-pub mod FreshTables
-pub mod Refusals
-pub mod Crooked
-pub mod Spoiled
-pub mod Large

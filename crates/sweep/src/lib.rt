@@ -1,4 +1,12 @@
 // RANGESCAN and SCANHELPER (lines 129 to 146), a turn at a time: what each turn decides.
+use fields::as_parent;
+use fields::in_progress;
+use fields::is_internal;
+use fields::key_at;
+use fields::rank_at;
+use fields::read_child;
+use fields::state_at;
+use fields::update_at;
 use hand::at_node;
 use hand::at_root;
 use hand::at_word;
@@ -23,14 +31,6 @@ use shapes::Place;
 use shapes::Step;
 use shapes::Totals;
 use tables::LAST_PHASE;
-use tables::as_parent;
-use tables::in_progress;
-use tables::is_internal;
-use tables::key_at;
-use tables::rank_at;
-use tables::read_child;
-use tables::state_at;
-use tables::update_at;
 ghost use mathlib.Core.Path.{_≡_};
 ghost use Prim.Native.Nat.{_-_};
 ghost use Rattle.steps.specs.Scan.{bump131, word139, state140, within, leaves, comesTo, reads, child141, left144};

@@ -1,67 +1,40 @@
-// The tables: rows of words behind named fields, and fresh ones.
-mod numbers; // the sizes of 01, and what stands for kinds, types and states
-mod words; // one word, one row
-mod keys; // keys as numbers, and back
-mod nodes; // a node's fields
-mod records; // a record's fields
-mod versions; // READCHILD
-mod workers; // a worker that holds no operation
-mod fresh_tables; // fresh tables
+// The numbers of 01 and the report, each with its name.
 
-pub use fresh_tables::between;
-pub use fresh_tables::fresh;
-pub use fresh_tables::lent_ok;
-pub use fresh_tables::sizes_ok;
-pub use keys::key_of;
-pub use keys::number_of;
-pub use nodes::child_at;
-pub use nodes::is_internal;
-pub use nodes::key_at;
-pub use nodes::key_value;
-pub use nodes::kind_at;
-pub use nodes::new_node;
-pub use nodes::phase_at;
-pub use nodes::prev_at;
-pub use nodes::rank_at;
-pub use nodes::same_node;
-pub use nodes::same_record;
-pub use nodes::same_update;
-pub use nodes::set_child;
-pub use nodes::set_update;
-pub use nodes::update_at;
-pub use numbers::ABORT;
-pub use numbers::COMMIT;
-pub use numbers::FLAG;
-pub use numbers::INTERNAL;
-pub use numbers::LAST_PHASE;
-pub use numbers::LEAF;
-pub use numbers::LEAST_NODES;
-pub use numbers::LEAST_RECORDS;
-pub use numbers::LEAST_WORKERS;
-pub use numbers::MARK;
-pub use numbers::MOST_NODES;
-pub use numbers::MOST_RECORDS;
-pub use numbers::MOST_WORKERS;
-pub use numbers::NODE_WIDTH;
-pub use numbers::RECORD_WIDTH;
-pub use numbers::TRY;
-pub use numbers::UNDECIDED;
-pub use records::count_at;
-pub use records::entry_at;
-pub use records::fillable;
-pub use records::helpable;
-pub use records::in_progress;
-pub use records::new_child_at;
-pub use records::new_record;
-pub use records::old_child_at;
-pub use records::par_at;
-pub use records::seq_at;
-pub use records::set_state;
-pub use records::state_at;
-pub use records::unfilled;
-pub use versions::as_parent;
-pub use versions::read_child;
-pub use words::get;
-pub use words::put;
-pub use workers::blank;
-pub use workers::idle;
+// 01, 'Sizes'.
+pub const LEAST_NODES: u32 = 8;
+
+pub const MOST_NODES: u32 = 1024;
+
+pub const LEAST_RECORDS: u32 = 2;
+
+pub const MOST_RECORDS: u32 = 512;
+
+pub const LEAST_WORKERS: u32 = 1;
+
+pub const MOST_WORKERS: u32 = 8;
+
+pub const LAST_PHASE: u32 = 65535;
+
+// The words of a row.
+pub const NODE_WIDTH: u32 = 10;
+
+pub const RECORD_WIDTH: u32 = 22;
+
+// Kinds of nodes.
+pub const LEAF: u32 = 0;
+
+pub const INTERNAL: u32 = 1;
+
+// Types of update words (line 2).
+pub const FLAG: u32 = 0;
+
+pub const MARK: u32 = 1;
+
+// States of records (line 6).
+pub const UNDECIDED: u32 = 0;
+
+pub const TRY: u32 = 1;
+
+pub const COMMIT: u32 = 2;
+
+pub const ABORT: u32 = 3;

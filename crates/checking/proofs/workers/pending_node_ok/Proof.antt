@@ -1,7 +1,7 @@
 -- `pending_node_ok` tests the node at `spot`: the place fits 64 bits (`row-fits`), and `get` reads it.
 use native.Mathlib.Omega.{arith}
 use borrow.Author.Needs.{needs}
-use Rattle.tables.proofs.Places.{row-fits}
+use Rattle.tables.specs.Places.{row-fits}
 use Rattle.tables.specs.World.{spot}
 use Rattle.checking.proofs.workers.pending_node_ok.Statement.{statement}
 use Rattle.checking.proofs.workers.pending_node_ok.Tie as tie

@@ -1,6 +1,6 @@
 -- `spot` is the definition of the same name: the place fits 64 bits (`row-fits`).
 use native.Mathlib.Omega.{arith}
-use Rattle.tables.proofs.Places.{row-fits}
+use Rattle.tables.specs.Places.{row-fits}
 use Rattle.tables.specs.World.{spot}
 use mathlib.Core.Path.{refl}
 use borrow.Author.Needs.{needs}

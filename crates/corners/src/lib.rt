@@ -1,0 +1,1 @@
+// Worked examples where the rules bend: refusals, crooked and spoiled tables, the largest ones. Theorems only.

@@ -1,0 +1,2 @@
+mod Clears
+mod Asked

@@ -1,5 +1,0 @@
-pub mod Places
-pub mod Walks
-pub mod Signs
-pub mod Clears
-pub mod Asked
