@@ -6,6 +6,5 @@ pub mod Attempts
 pub mod Scanning
 pub mod Kept
 pub mod Fresh
-pub mod Refused
 pub mod Touched
 pub mod Frame
