@@ -11,14 +11,12 @@ use shapes::MaybeNode;
 use shapes::NodeNo;
 use shapes::Place;
 use shapes::Update;
+use tables::FLAG;
+use tables::MARK;
 ghost use mathlib.Core.Path.{_≡_};
 ghost use Rattle.tables.specs.Records.{entry};
 ghost use Rattle.sound.specs.Homes.{listed};
 ghost use Rattle.steps.specs.Execute.{oldUpdate, insertFilling, deleteFilling, fillInsert, fillDelete, fills, frozen97, state98, freeze103};
-
-const FLAG: u32 = 0;
-
-const MARK: u32 = 1;
 
 // How many nodes a record lists (lines 164 and 190).
 const INSERT_LISTS: u32 = 2;

@@ -11,19 +11,14 @@ use shapes::Place;
 use shapes::RecordNo;
 use shapes::Totals;
 use shapes::Update;
+use tables::ABORT;
+use tables::COMMIT;
+use tables::TRY;
+use tables::UNDECIDED;
 ghost use mathlib.Core.Path.{_≡_};
 ghost use Rattle.tables.specs.Records.{parAt, oldChildAt, newChildAt};
 ghost use Rattle.tables.specs.World.{tables};
 ghost use Rattle.steps.specs.Help.{reads, counter111, stateCas, state114, freezeCas, frozen119, casChild, state125, helpStep, helpOf, backTo, helpNext};
-
-// The states of line 6.
-const UNDECIDED: u32 = 0;
-
-const TRYING: u32 = 1;
-
-const COMMITTED: u32 = 2;
-
-const ABORTED: u32 = 3;
 
 // Where HELP begins in the list: line 103 froze nodes[1].
 const SECOND: u32 = 2;
@@ -64,7 +59,7 @@ fn state114(records: &[u32], r: RecordNo) -> HelpMove
     ensures { λ m. ⌜ m ≡ state114 (now (records .entry)) r ⌝ }
 {
     let state = fields::state_at(records, r);
-    if state == TRYING {
+    if state == TRY {
         HelpMove::Goes(Effect::Nothing, SECOND, HelpStep::Freeze117)
     } else {
         reads(HelpStep::State125)
@@ -142,7 +137,7 @@ fn state125(records: &[u32], r: RecordNo) -> HelpMove
     ensures { λ m. ⌜ m ≡ state125 (now (records .entry)) r ⌝ }
 {
     let state = fields::state_at(records, r);
-    if state == TRYING {
+    if state == TRY {
         reads(HelpStep::Abort126)
     } else {
         reads(HelpStep::State127)
@@ -162,8 +157,8 @@ fn help_step(
 {
     match b {
         HelpStep::Counter111 => counter111(totals, records, r),
-        HelpStep::Abort112 => HelpMove::Goes(state_cas(records, r, ABORTED), 0, HelpStep::State114),
-        HelpStep::Try113 => HelpMove::Goes(state_cas(records, r, TRYING), 0, HelpStep::State114),
+        HelpStep::Abort112 => HelpMove::Goes(state_cas(records, r, ABORT), 0, HelpStep::State114),
+        HelpStep::Try113 => HelpMove::Goes(state_cas(records, r, TRY), 0, HelpStep::State114),
         HelpStep::State114 => state114(records, r),
         HelpStep::Freeze117 => HelpMove::Goes(
             freeze_cas(nodes, records, r, i),
@@ -172,14 +167,10 @@ fn help_step(
         ),
         HelpStep::Frozen119 => frozen119(nodes, records, r, i),
         HelpStep::Child123 => HelpMove::Goes(child123(nodes, records, r), 0, HelpStep::Commit124),
-        HelpStep::Commit124 => HelpMove::Goes(
-            Effect::SetState(r, COMMITTED),
-            0,
-            HelpStep::State127,
-        ),
+        HelpStep::Commit124 => HelpMove::Goes(Effect::SetState(r, COMMIT), 0, HelpStep::State127),
         HelpStep::State125 => state125(records, r),
-        HelpStep::Abort126 => HelpMove::Goes(Effect::SetState(r, ABORTED), 0, HelpStep::State127),
-        HelpStep::State127 => HelpMove::Done(fields::state_at(records, r) == COMMITTED),
+        HelpStep::Abort126 => HelpMove::Goes(Effect::SetState(r, ABORT), 0, HelpStep::State127),
+        HelpStep::State127 => HelpMove::Done(fields::state_at(records, r) == COMMIT),
     }
 }
 
