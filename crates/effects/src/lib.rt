@@ -18,6 +18,13 @@ use shapes::Rank;
 use shapes::RecordNo;
 use shapes::Totals;
 use shapes::Update;
+use tables::ABORT;
+use tables::INTERNAL;
+use tables::LAST_PHASE;
+use tables::LEAF;
+use tables::MOST_NODES;
+use tables::MOST_RECORDS;
+use tables::UNDECIDED;
 ghost use mathlib.Core.Path.{_≡_};
 ghost use Prim.Native.Nat.{_≤_};
 ghost use Rattle.shapes.specs.Numbers.{mostN};
@@ -25,17 +32,16 @@ ghost use Rattle.tables.specs.Names.{finite};
 ghost use Rattle.tables.specs.Records.{unfilled};
 ghost use Rattle.tables.specs.World.{tables};
 ghost use Rattle.steps.specs.Apply.{bumped, taken, topOf, threeNodes, copyOf, takenRecord, apply};
-ghost use Rattle.effects.specs.Sizes.{WithinSizes};
-
-const LEAF: u32 = 0;
-
-const INTERNAL: u32 = 1;
-
-const UNDECIDED: u32 = 0;
-
-const ABORTED: u32 = 3;
+ghost use Rattle.effects.specs.Sizes.{WithinSizes, within, applyWithin};
 
 // ---- totals
+
+// Small enough that no sum below wraps.
+pub fn within(t: Totals) -> bool
+    ensures { λ r. ⌜ r ≡ within t ⌝ }
+{
+    (t.nodes <= MOST_NODES) & (t.records <= MOST_RECORDS) & (t.counter <= LAST_PHASE)
+}
 
 fn bumped(t: Totals) -> Totals
     requires { ⌜ WithinSizes t ⌝ }
@@ -145,12 +151,12 @@ fn unfilled() -> Filling
 fn taken_record(records: &mut [u32], u: u32)
     ensures { λ r. ⌜ now (records .exit) ≡ takenRecord (now (records .entry)) u ⌝ }
 {
-    new_record(records, RecordNo(u), ABORTED, unfilled());
+    new_record(records, RecordNo(u), ABORT, unfilled());
 }
 
 // ---- effects
 
-pub fn apply(e: Effect, totals: Totals, nodes: &mut [u32], records: &mut [u32]) -> Totals
+fn carried_out(e: Effect, totals: Totals, nodes: &mut [u32], records: &mut [u32]) -> Totals
     requires { ⌜ WithinSizes totals ⌝ }
     ensures { λ r. ⌜ tables r (now (nodes .exit)) (now (records .exit)) ≡ apply e (tables totals (now (nodes .entry)) (now (records .entry))) ⌝ }
 {
@@ -188,4 +194,14 @@ pub fn apply(e: Effect, totals: Totals, nodes: &mut [u32], records: &mut [u32]) 
             totals
         }
     }
+}
+
+// Totals beyond the sizes are never those of sound tables; nothing is written for them.
+pub fn apply(e: Effect, totals: Totals, nodes: &mut [u32], records: &mut [u32]) -> Totals
+    ensures { λ r. ⌜ tables r (now (nodes .exit)) (now (records .exit)) ≡ applyWithin e (tables totals (now (nodes .entry)) (now (records .entry))) ⌝ }
+{
+    if !within(totals) {
+        return totals;
+    }
+    carried_out(e, totals, nodes, records)
 }

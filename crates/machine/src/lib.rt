@@ -1,4 +1,9 @@
-// The library's face: what a decision makes of the tables, and a turn on sound ones.
-mod lists; // a worker's pending nodes and found keys
-mod workers; // a worker after its turn
-mod turns; // a turn on sound tables
+// The library's face: starts, a turn, a run of turns.
+mod turns; // a run of turns, and one turn
+
+pub use starting::start_delete;
+pub use starting::start_find;
+pub use starting::start_insert;
+pub use starting::start_scan;
+pub use turns::run;
+pub use turns::turn;
