@@ -1,2 +1,4 @@
 pub mod Listing
+pub mod Leaves
+pub mod Kept
 pub mod Examples
