@@ -1,0 +1,13 @@
+pub mod Numbers
+pub mod Format
+pub mod Reading
+pub mod Writing
+pub mod Numerals
+pub mod OneMore
+pub mod Commands
+pub mod Standing
+pub mod Openings
+pub mod Whole
+pub mod Written
+pub mod Examples
+pub mod Outcomes
