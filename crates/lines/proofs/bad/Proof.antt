@@ -1,0 +1,41 @@
+-- `bad` puts its words in their order, and they fit the page.
+use mathlib.Core.Path.{_≡_}
+use native.Mathlib.Omega.{arith}
+use lib.ListN.{length}
+use denote.Ref.{now}
+use Rattle.lines.specs.Text.{badText}
+use Rattle.lines.specs.Page.{fills-page, fill-line, fill-word, fill-no-words}
+use Rattle.lines.specs.Lengths.{size, bad-fits}
+use borrow.Author.Needs.{needs}
+use Rattle.lines.proofs.bad.Statement.{statement}
+use Rattle.lines.proofs.bad.Tie as tie
+
+slice-aggregate-put-text : tie.Need-slice-aggregate-put-text
+slice-aggregate-put-text c = search needs
+
+put-text-requires : tie.Need-put-text-requires
+put-text-requires c κs = search needs
+
+put-next-requires : tie.Need-put-next-requires
+put-next-requires c κs = search needs
+
+put-byte-requires : tie.Need-put-byte-requires
+put-byte-requires c κs = search needs
+
+returns : tie.Need-returns
+unfolding badText
+returns c =
+    let a = c .before .before .before .before .before .before .before .args in
+    let whole : length (now (a .out)) ≡ size = omega arith in
+    let fits = bad-fits (a .command) (omega arith) in
+    rw (c .put-byte .ensures, c .before .before .put-next .ensures, c .before .before .before .before .put-text .ensures, ← fills-page (badText (a .command)) (now (a .out)) (omega arith)) (simp (fill-line, fill-word, fill-no-words))
+
+pub bad-spec : {M : Type 1} → statement M
+bad-spec =
+    tie.close
+    (tie.spec
+    slice-aggregate-put-text
+    put-text-requires
+    put-next-requires
+    put-byte-requires
+    returns)

@@ -1,0 +1,93 @@
+// The words of an answer, a refusal's number, and the keys of a scan.
+ghost use mathlib.Core.Path.{_≡_};
+ghost use mathlib.Core.List.{_∷_};
+ghost use Prim.Native.Nat.{_+_, _*_, _≤_, min};
+ghost use lib.IntN.{pos};
+ghost use lib.ListN.{length, getD};
+ghost use Rattle.shapes.specs.Numbers.{refusalNumber};
+ghost use Rattle.lines.specs.Text.{blank, answerWord, mostKeys, listedOf, keysText};
+ghost use Rattle.lines.specs.Page.{page, fill};
+ghost use Rattle.lines.specs.Lengths.{keyRoom};
+use crate::page::put_next_signed;
+use crate::page::put_text;
+use shapes::Answer;
+use shapes::Refusal;
+
+// The most keys that a line lists: as many as there are nodes.
+const MOST_KEYS: u32 = 1024;
+
+// A blank and the word.
+pub fn put_answer(answer: Answer, out: &mut [u8], at: usize) -> usize
+    ensures { λ r. ⌜ page r (now (out .exit)) ≡ fill (blank ∷ answerWord answer) (page at (now (out .entry))) ⌝ }
+{
+    match answer {
+        Answer::Yes => put_text(b" yes", out, at),
+        Answer::No => put_text(b" no", out, at),
+        Answer::Keys(_) => put_text(b" keys", out, at),
+        Answer::NoRoom => put_text(b" no-room", out, at),
+        Answer::NoPhase => put_text(b" no-phase", out, at),
+    }
+}
+
+pub fn refusal_number(refusal: Refusal) -> u64
+    ensures { λ r. ⌜ r ≡ refusalNumber refusal ⌝ }
+{
+    match refusal {
+        Refusal::Table => 1,
+        Refusal::Size => 2,
+        Refusal::Worker => 3,
+        Refusal::Busy => 4,
+        Refusal::Idle => 5,
+        Refusal::Crooked => 7,
+    }
+}
+
+fn capped(n: u32) -> usize
+    ensures { λ r. ⌜ r ≡ min n mostKeys ⌝ }
+{
+    if MOST_KEYS < n {
+        return MOST_KEYS as usize;
+    }
+    n as usize
+}
+
+// How many keys an answer lists.
+pub fn listed(answer: Answer) -> usize
+    ensures { λ r. ⌜ r ≡ listedOf answer ⌝ }
+{
+    match answer {
+        Answer::Yes => 0,
+        Answer::No => 0,
+        Answer::Keys(n) => capped(n),
+        Answer::NoRoom => 0,
+        Answer::NoPhase => 0,
+    }
+}
+
+// Key i from a place on; 0 past the end.
+fn key_at(found: &[i32], from: usize, i: usize) -> i32
+    ensures { λ r. ⌜ r ≡ getD (now (found .entry)) (from + i) (pos 0) ⌝ }
+{
+    if found.len() <= from {
+        return 0;
+    }
+    if found.len() - from <= i {
+        return 0;
+    }
+    found[from + i]
+}
+
+// So many keys from a place on, a blank before each.
+pub fn put_keys(found: &[i32], from: usize, n: usize, out: &mut [u8], at: usize) -> usize
+    ensures { λ r. ⌜ page r (now (out .exit)) ≡ fill (keysText (now (found .entry)) from n) (page at (now (out .entry))) ⌝ }
+    ensures { λ r. ⌜ length (keysText (now (found .entry)) from n) ≤ n * keyRoom ⌝ }
+{
+    let mut i = 0;
+    let mut place = at;
+    while i < n {
+        let key = key_at(found, from, i);
+        place = put_next_signed(key, out, place);
+        i += 1;
+    }
+    place
+}
