@@ -1,0 +1,70 @@
+// What each command of a schedule does to the tables and to the turn counts, and the line that it prints.
+use machine::run;
+use machine::start_delete;
+use machine::start_find;
+use machine::start_insert;
+use machine::start_scan;
+use schedule::Command;
+use shapes::Board;
+use tally::Played;
+use tally::begun;
+use tally::ran;
+ghost use mathlib.Core.Path.{_≡_};
+ghost use Rattle.tables.specs.World.{world};
+ghost use Rattle.tally.specs.Playing.{told, evening, playOf};
+
+pub fn play(
+    number: u32,
+    command: Command,
+    board: Board,
+    turns: [u64; 8],
+    nodes: &mut [u32],
+    records: &mut [u32],
+    pending: &mut [u32],
+    found: &mut [i32],
+) -> Played
+    ensures { λ r. ⌜ told r (now (nodes .exit)) (now (records .exit)) (now (pending .exit)) (now (found .exit)) ≡ playOf number command (evening (world board (now (nodes .entry)) (now (records .entry)) (now (pending .entry)) (now (found .entry))) turns) ⌝ }
+{
+    match command {
+        Command::Insert(w, k) => {
+            begun(
+                number,
+                w,
+                turns,
+                start_insert(board, w, k, nodes, records, pending, found),
+            )
+        }
+        Command::Delete(w, k) => {
+            begun(
+                number,
+                w,
+                turns,
+                start_delete(board, w, k, nodes, records, pending, found),
+            )
+        }
+        Command::Find(w, k) => {
+            begun(
+                number,
+                w,
+                turns,
+                start_find(board, w, k, nodes, records, pending, found),
+            )
+        }
+        Command::Scan(w, a, b) => {
+            begun(
+                number,
+                w,
+                turns,
+                start_scan(board, w, a, b, nodes, records, pending, found),
+            )
+        }
+        Command::Turns(w, n) => {
+            ran(
+                number,
+                w,
+                turns,
+                run(board, w, n, nodes, records, pending, found),
+            )
+        }
+    }
+}

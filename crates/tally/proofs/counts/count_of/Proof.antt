@@ -1,0 +1,23 @@
+-- `count_of`: past the eight workers the count is 0.
+use Prim.Native.Nat.{_≤_}
+use mathlib.Core.Path.{sym}
+use native.Mathlib.Omega.{arith}
+use lib.ListN.{length, List·getD-eq-default}
+use borrow.Author.Needs.{needs}
+use Rattle.tally.proofs.counts.count_of.Statement.{statement}
+use Rattle.tally.proofs.counts.count_of.Tie as tie
+
+mul-result : tie.Need-mul-result
+mul-result c = search needs
+
+array-read-result : tie.Need-array-read-result
+array-read-result c = search needs
+
+returns : tie.Need-returns
+returns c = search needs
+
+returns-2 : tie.Need-returns-2
+returns-2 c = let h : length (c .before .args .t1) ≤ c .before .args .w = omega (arith, c .before .good) in sym (List·getD-eq-default (c .before .args .t1) _ h)
+
+pub count-of-spec : {M : Type 1} → statement M
+count-of-spec = tie.close (tie.spec mul-result array-read-result returns returns-2)
