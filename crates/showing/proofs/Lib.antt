@@ -1,0 +1,2 @@
+mod Pages
+mod Parts
