@@ -1,0 +1,116 @@
+// Everything kept on the board, stirred into one number.
+use crate::digest::stir;
+use crate::places::back_code;
+use crate::places::help_step_code;
+use crate::places::link_code;
+use crate::places::link_step_code;
+use shapes::Board;
+use shapes::Condition;
+use shapes::Locals;
+use shapes::MaybeNode;
+use shapes::Operation;
+use shapes::Place;
+use shapes::Totals;
+use shapes::Update;
+use shapes::Worker;
+
+fn stir_update(sum: u32, u: Update) -> u32 {
+    stir(stir(sum, u.mark), u.info.0)
+}
+
+fn stir_maybe(sum: u32, m: MaybeNode) -> u32 {
+    match m {
+        MaybeNode::Absent => stir(sum, 0),
+        MaybeNode::At(x) => stir(stir(sum, 1), x.0),
+    }
+}
+
+fn stir_hand(sum: u32, v: Locals) -> u32 {
+    let gp = v.gp;
+    let nodes = stir(stir(stir_maybe(stir(sum, v.seq.0), gp), v.p.0), v.l.0);
+    let read = stir_update(stir_update(nodes, v.gpup), v.pup);
+    let words = stir_update(stir_update(stir_update(read, v.lup), v.sup), v.up);
+    stir(
+        stir(stir(stir(words, v.sibling.0), v.made.0), v.info.0),
+        v.i,
+    )
+}
+
+fn bare_code(q: Place) -> u32 {
+    match q {
+        Place::Counter74 => 74,
+        Place::Search39 => 39,
+        Place::Link(a, s) => 1,
+        Place::Word66 => 66,
+        Place::Grand66 => 67,
+        Place::Leaf164 => 164,
+        Place::Sibling182 => 182,
+        Place::CopyLeft => 185,
+        Place::CopyRight => 186,
+        Place::Word189 => 189,
+        Place::Leaf190 => 190,
+        Place::Frozen97 => 97,
+        Place::State98 => 98,
+        Place::Freeze103 => 103,
+        Place::Help(s, b) => 2,
+        Place::Counter130 => 130,
+        Place::Bump131 => 131,
+        Place::Word139 => 139,
+        Place::State140 => 140,
+        Place::Child141 => 141,
+        Place::Left144 => 144,
+    }
+}
+
+fn stir_place(sum: u32, q: Place) -> u32 {
+    let all = stir(sum, bare_code(q));
+    if let Place::Link(a, s) = q {
+        return stir(stir(all, link_code(a)), link_step_code(s));
+    }
+    if let Place::Help(s, b) = q {
+        return stir(stir(all, help_step_code(s)), back_code(b));
+    }
+    all
+}
+
+fn stir_operation(sum: u32, o: Operation) -> u32 {
+    match o {
+        Operation::Insert(k, q) => stir_place(stir(stir(sum, 1), k.0), q),
+        Operation::Delete(k, q) => stir_place(stir(stir(sum, 2), k.0), q),
+        Operation::Find(k, q) => stir_place(stir(stir(sum, 3), k.0), q),
+        Operation::Scan(a, b, q) => stir_place(stir(stir(stir(sum, 4), a.0), b.0), q),
+    }
+}
+
+fn stir_condition(sum: u32, c: Condition) -> u32 {
+    match c {
+        Condition::Idle => stir(sum, 0),
+        Condition::Busy(o) => stir_operation(sum, o),
+    }
+}
+
+fn stir_worker(sum: u32, k: Worker) -> u32 {
+    let condition = k.condition;
+    let hand = k.hand;
+    let all = stir_hand(stir_condition(sum, condition), hand);
+    stir(stir(all, k.pending), k.found)
+}
+
+fn of_totals(t: Totals) -> u32 {
+    stir(
+        stir(stir(stir(stir(t.n, t.m), t.p), t.nodes), t.records),
+        t.counter,
+    )
+}
+
+pub fn of_board(board: Board) -> u32 {
+    let workers = board.workers;
+    let mut all = of_totals(board.totals);
+    let mut w = 0;
+    while w < 8 {
+        let k = workers[w];
+        all = stir_worker(all, k);
+        w += 1;
+    }
+    all
+}
