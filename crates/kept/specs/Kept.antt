@@ -106,7 +106,7 @@ length-added l i found.Keep = refl
 length-added l i (found.Add k) = length-set l i _
 
 -- a place of worker w's list lies within the lent list, and in no other worker's
-spot-within : (t : Totals) (w i len : ℕ) → w < t .p → i < t .n → t .p * t .n ≤ len → spot t w i < len
+pub spot-within : (t : Totals) (w i len : ℕ) → w < t .p → i < t .n → t .p * t .n ≤ len → spot t w i < len
 unfolding spot
 spot-within t w i len a b c = let rows : suc w * t .n ≤ t .p * t .n = mul-le-mul-right (t .n) a in omega (arith, rows)
 

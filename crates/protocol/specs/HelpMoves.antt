@@ -5,7 +5,7 @@ use mathlib.Core.Logic.{_≢_, _⊎_}
 use mathlib.Core.Bool.{Bool, true, false, true≢false}
 use native.Mathlib.Omega.{arith}
 use lib.Dec.{eqb, ltb}
-use borrow.Author.Tests.{ltb-true, ltb-false, eqb-true, eqb-false}
+use borrow.Author.Tests.{ltb-true, ltb-false, eqb-true, eqb-false, eq-eqb, ne-eqb}
 use Rattle.laws.specs.Choice.{pick, fork}
 use Rattle.laws.specs.Tests.{says-and, says-itself}
 use Rattle.shapes.specs.declared.Update.{Update}
@@ -41,24 +41,10 @@ same-words u v e =
     let n : u .info .0 ≡ v .info .0 = eqb-true _ _ (both .1) in
     λ i. record { mark = m i; info = record { 0 = n i } }
 
-eqb-same : (n : ℕ) → eqb n n ≡ true
-eqb-same n = by (eqb n n) refl
-  where
-    by : (b : Bool) → eqb n n ≡ b → b ≡ true
-    by true e = refl
-    by false e = absurd (eqb-false n n e refl)
-
-unequal : (m n : ℕ) → (m ≡ n → ⊥) → eqb m n ≡ false
-unequal m n ne = by (eqb m n) refl
-  where
-    by : (b : Bool) → eqb m n ≡ b → b ≡ false
-    by true e = absurd (ne (eqb-true m n e))
-    by false e = refl
-
 pub other-words : (u v : Update) → sameUpdate u v ≡ false → u ≢ v
 unfolding sameUpdate sameRecord
 other-words u v e d =
-    let same : sameUpdate v v ≡ true = rw (eqb-same (v .mark), eqb-same (v .info .0)) refl in
+    let same : sameUpdate v v ≡ true = rw (eq-eqb (v .mark) _ refl, eq-eqb (v .info .0) _ refl) refl in
     true≢false (sym same ∙ (rw d at e))
 
 module _ (w : ℕ) (s : Tables) (h : TablesSound s) (G : Ghost) (H : Holds (view s) G) (r : ℕ) (sh : Shown (view s) G r) where
@@ -195,8 +181,8 @@ module _ (w : ℕ) (s : Tables) (h : TablesSound s) (G : Ghost) (H : Holds (view
   unfolding helpable view fillingAt
   may-help e =
       let c : 0 < countAt (s .records) (recordNo r) = sh .filled .some in
-      let some : eqb (countAt (s .records) (recordNo r)) 0 ≡ false = unequal (countAt (s .records) (recordNo r)) 0 (λ z. let none : countAt (s .records) (recordNo r) ≡ 0 = z in omega arith) in
-      let other : eqb r 0 ≡ false = unequal r 0 (λ z. let none : countAt (s .records) (recordNo r) ≡ 0 = rw z (H .dummy .1) in omega arith) in
+      let some : eqb (countAt (s .records) (recordNo r)) 0 ≡ false = ne-eqb (countAt (s .records) (recordNo r)) 0 (λ z. let none : countAt (s .records) (recordNo r) ≡ 0 = z in omega arith) in
+      let other : eqb r 0 ≡ false = ne-eqb r 0 (λ z. let none : countAt (s .records) (recordNo r) ≡ 0 = rw z (H .dummy .1) in omega arith) in
       true≢false (rw (some, other) at e)
 
   pub help-moves : (i : ℕ) (b : HelpStep) → At (view s) G r i b → Moved (helpOf s (recordNo r) i b)

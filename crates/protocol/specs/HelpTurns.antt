@@ -17,13 +17,15 @@ use Rattle.protocol.specs.Freeze.{gFroze, froze-more, freeze-holds}
 use Rattle.protocol.specs.SetState.{gTried, Sets, state-holds, sets-try, sets-early, sets-commit, sets-abort}
 use Rattle.protocol.specs.Rely.{Unseen, Rely, rely-same, not-lost, rely-freeze, rely-state}
 use Rattle.protocol.specs.Helper.{Shown, AtPlace, AllFrozen, TriedLost, At, Helps, helps-kept, shown-kept}
-use Rattle.protocol.specs.Linking.{LinkedTurn, linked-step}
+use Rattle.protocol.specs.Linking.{LinkedTurn, links, linked-step}
+use Rattle.protocol.specs.Trees.{Leaves, TreeStep}
 
 -- what a turn of worker w gives that leaves X′ and knows Q
 pub record Gives (w : ℕ) (X X′ : View) (G : Ghost) (Q : Ghost → Type 0) : Type 0 where
   pub after : Ghost
   pub holds : Holds X′ after
   pub rely : Rely w X X′ G after
+  pub trees : TreeStep X X′ G after
   pub knows : Q after
 
 abbrev pub Helped : ℕ → View → View → Ghost → ℕ → ℕ → HelpStep → Type 0
@@ -41,13 +43,13 @@ module _ (w : ℕ) (X : View) (G : Ghost) (H : Holds X G) (r : ℕ) (s : Shown X
 
   -- a turn that only reads
   pub stays : (i : ℕ) (b : HelpStep) → At X G r i b → Helped w X X G r i b
-  stays i b h = record { after = G; holds = H; rely = rely-same w X G; knows = record { shown = s; at = h } }
+  stays i b h = record { after = G; holds = H; rely = rely-same w X G; trees = inl (record { fixed = λ n u. refl; kid = λ e n u. refl }); knows = record { shown = s; at = h } }
 
   -- a turn that sets the state
   sets : (v : ℕ) (t : ℕ → Bool) → Sets X G r v t → (trying ≤ X .state r → trying ≤ v) → (G .tried r ≡ true → t r ≡ true) → (b : HelpStep) → At (wState X r v) (gTried G t) r 0 b → Helped w X (wState X r v) G r 0 b
   sets v t S up more b h =
       let L : Rely w X (wState X r v) G (gTried G t) = rely-state w X G H r v t S up more seen-by-some in
-      record { after = gTried G t; holds = state-holds X G H r v t S; rely = L; knows = record { shown = shown-kept w X (wState X r v) G (gTried G t) L r s; at = h } }
+      record { after = gTried G t; holds = state-holds X G H r v t S; rely = L; trees = inl (record { fixed = λ n u. refl; kid = λ e n u. refl }); knows = record { shown = shown-kept w X (wState X r v) G (gTried G t) L r s; at = h } }
 
   -- lines 111 to 113
   pub abort112 : X .state r ≡ undecided → Helped w X (wState X r aborted) G r 0 State114
@@ -75,6 +77,7 @@ module _ (w : ℕ) (X : View) (G : Ghost) (H : Holds X G) (r : ℕ) (s : Shown X
           after = gFroze G r (nodeOf (X .filling r) i);
           holds = freeze-holds X G H r i m (s .filled) (a .list) live hit (inr (s .first));
           rely = L;
+          trees = inl (record { fixed = λ n u. refl; kid = λ e n u. refl });
           knows = record {
             shown = shown-kept w X X′ G (gFroze G r (nodeOf (X .filling r) i)) L r s;
             at = (record { tried = a .tried; list = a .list; before = λ j x y. froze-more G r (nodeOf (X .filling r) i) r _ (a .before j x y) }, inl now);
@@ -147,7 +150,7 @@ module _ (w : ℕ) (X : View) (G : Ghost) (H : Holds X G) (r : ℕ) (s : Shown X
   child123 a hit =
       let t : LinkedTurn w X G H r (s .filled) (a .tried) (a .all) hit = linked-step w X G H r (s .filled) (a .tried) (a .all) hit in
       let k : Helps X′ (t .after) r 0 Child123 = helps-kept w X X′ G (t .after) (t .rely) r 0 Child123 (record { shown = s; at = a }) in
-      record { after = t .after; holds = t .holds; rely = t .rely; knows = record { shown = k .shown; at = (k .at, t .past) } }
+      record { after = t .after; holds = t .holds; rely = t .rely; trees = inr (links w X G H r (s .filled) (a .tried) (a .all) hit (t .after)); knows = record { shown = k .shown; at = (k .at, t .past) } }
     where
       X′ : View
       X′ = wKid X (sideOf X (X .filling r)) (parOf (X .filling r)) (newChildOf (X .filling r))

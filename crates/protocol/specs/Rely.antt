@@ -5,7 +5,7 @@ use mathlib.Core.Logic.{_≢_, _⊎_, inl, inr}
 use mathlib.Core.Bool.{Bool, true, false, true≢false}
 use native.Mathlib.Omega.{arith}
 use native.Mathlib.Decide.{decLe}
-use Rattle.laws.specs.Changed.{change, change-other, change-case, by-equal}
+use Rattle.laws.specs.Changed.{change, change-same, change-other, change-case, by-equal}
 use Rattle.shapes.specs.declared.Update.{Update}
 use Rattle.shapes.specs.declared.Filling.{Filling}
 use Rattle.tables.specs.Names.{recordNo, update}
@@ -40,6 +40,8 @@ pub record Rely (w : ℕ) (X X′ : View) (G G′ : Ghost) : Type 0 where
   pub tried : (r : ℕ) → G .tried r ≡ true → G′ .tried r ≡ true
   -- words and states
   pub seen : (v : ℕ) (u : Update) → Seen X G v u → Seen X′ G′ v u
+  -- a word that was seen does not come back
+  pub stood : (v : ℕ) (u : Update) → Seen X G v u → X′ .update v ≡ u → X .update v ≡ u
   pub final : (u : Update) → KnownWord X u → Final X u → Final X′ u
   pub begun : (r : ℕ) → Filled X r → trying ≤ X .state r → trying ≤ X′ .state r
   pub past : (r : ℕ) → Filled X r → Past X (X .filling r) → Past X′ (X .filling r)
@@ -68,6 +70,7 @@ rely-same w X G = record {
   froze = λ r v h. h;
   tried = λ r h. h;
   seen = λ v u h. h;
+  stood = λ v u s e. e;
   final = λ u k h. h;
   begun = λ r f h. h;
   past = λ r f h. h;
@@ -93,6 +96,7 @@ rely-counter w X G c le = record {
   froze = λ r v h. h;
   tried = λ r h. h;
   seen = λ v u h. record { used = h .used; known = elim (h .known) [ inl e ↦ inl e | inr f ↦ inr (record { used = f .used; some = f .some }) ]; since = h .since; mine = h .mine };
+  stood = λ v u s e. e;
   final = λ u k h. h;
   begun = λ r f h. h;
   past = λ r f h. h;
@@ -162,6 +166,7 @@ rely-freeze w X G H r j m f l live hit order alive own = record {
   froze = λ q v h. froze-more G r (nodeOf (X .filling r) j) q v h;
   tried = λ q h. h;
   seen = freeze.seen′ X G H r j m f l live hit order;
+  stood = λ v u s e. by-equal v (nodeOf (X .filling r) j) (λ d. absurd (back v u s d e)) (λ ne. sym (change-other (X .update) (nodeOf (X .filling r) j) (update m (recordNo r)) v ne) ∙ e);
   final = λ u k h. h;
   begun = λ q g h. h;
   past = λ q g h. h;
@@ -175,6 +180,18 @@ rely-freeze w X G H r j m f l live hit order alive own = record {
   where
     up : (v : ℕ) → G .stamp (X .update v .info .0) ≤ G .stamp (change (X .update) (nodeOf (X .filling r) j) (update m (recordNo r)) v .info .0)
     up = stamp-up X G H r j m f l live hit order
+
+    -- a word of r at the node would have been frozen there by r before
+    back : (v : ℕ) (u : Update) → Seen X G v u → v ≡ nodeOf (X .filling r) j → change (X .update) (nodeOf (X .filling r) j) (update m (recordNo r)) v ≡ u → ⊥
+    back v u s d e =
+        let named : r ≡ u .info .0 = ap (λ (y : Update). y .info .0) (sym (change-same (X .update) (nodeOf (X .filling r) j) (update m (recordNo r))) ∙ (rw d at e)) in
+        let other : u .info .0 ≢ 0 = λ z. let none : X .filling r .count ≡ 0 = rw (named, z) (H .dummy .1) in omega (arith, f .some) in
+        let mine : G .froze r v ≡ true = rw named (s .mine other) in
+        let low : G .stamp r ≤ G .stamp (X .update v .info .0) = H .records r f .later v mine in
+        let high : G .stamp (oldOf (X .filling r) j .info .0) < G .stamp r = H .records r f .old-stamp j l in
+        let stands : X .update v ≡ oldOf (X .filling r) j = rw d hit in
+        let z : G .stamp r ≤ G .stamp (oldOf (X .filling r) j .info .0) = rw stands at low in
+        omega (arith, high, z)
 
     same : (q : ℕ) → q ≢ r → (v : ℕ) → gFroze G r (nodeOf (X .filling r) j) .froze q v ≡ G .froze q v
     same q ne v = ap (λ h. h v) (change-other (G .froze) r (change (G .froze r) (nodeOf (X .filling r) j) true) q ne)
@@ -195,6 +212,7 @@ rely-state w X G H r v t S up more shown = record {
   froze = λ q y h. h;
   tried = λ q h. by-equal q r (λ e. rw e (more (rw e at h))) (λ e. S .other q e ∙ h);
   seen = setting.seen′ X G H r v t S;
+  stood = λ v u s e. e;
   final = λ u k h. setting.final′ X G H r v t S (u .info .0) h;
   begun = λ q g h. change-case (λ s. trying ≤ s) (X .state) r v q (λ e. up (rw e at h)) (λ e. h);
   past = λ q g h. h;
@@ -222,6 +240,7 @@ rely-fill w X G H r f F own = record {
   froze = λ q v h. h;
   tried = λ q h. h;
   seen = filling.seen′ X G H r f F;
+  stood = λ v u s e. e;
   final = filling.final′ X G H r f F;
   begun = λ q g h. rw (filling.state-same X G H r f F q (filling.differs X G H r f F q g)) h;
   past = λ q g h. h;

@@ -48,6 +48,7 @@ module _ (w : ℕ) (X : View) (G : Ghost) (H : Holds X G) (r : ℕ) (f : Filled 
     froze = λ q v h. h;
     tried = λ q h. h;
     seen = λ v u h. record { used = h .used; known = elim (h .known) [ inl e ↦ inl e | inr g ↦ inr (record { used = g .used; some = g .some }) ]; since = h .since; mine = h .mine };
+    stood = λ v u s e. e;
     final = λ u k h. h;
     begun = λ q g h. h;
     past = linking.past′ X G H r f t all hit;
@@ -85,6 +86,7 @@ rely-aside w X X′ G G′ P H A B = record {
   froze = λ q v h. rw (A .froze) h;
   tried = λ q h. rw (A .tried) h;
   seen = frame.seen′ X X′ G G′ P H A;
+  stood = λ v u s e. sym (A .update v (s .used)) ∙ e;
   final = frame.final′ X X′ G G′ P H A;
   begun = λ q g h. rw (A .state q (g .used)) h;
   past = λ q g h d. h (sym (frame.link-same X X′ G G′ P H A q g) ∙ d);

@@ -1,0 +1,96 @@
+-- I: the internal nodes now in use whose phase is at most i. A scan's visits are no more, so its turns are fewer than 2 + 16 × I while it has no answer.
+use Prim.Native.Nat.{ℕ, _+_, _*_, _≤_, _<_}
+use mathlib.Core.Path.{_≡_, refl}
+use mathlib.Core.Logic.{inl, inr}
+use mathlib.Core.List.{List}
+use mathlib.Core.Bool.{Bool, true, false, not, _&&_}
+use native.Mathlib.Omega.{arith}
+use lib.Dec.{leb}
+use lib.ListN.{length}
+use Rattle.shapes.specs.declared.Locals.{Locals}
+use Rattle.shapes.specs.declared.Back.the-variants.{Own, Again, Node}
+use Rattle.shapes.specs.declared.Place.{Place}
+use Rattle.shapes.specs.declared.Place.the-variants as place
+use Rattle.tables.specs.Names.{node}
+use Rattle.tables.specs.Nodes.{isInternal, phaseAt}
+use Rattle.tables.specs.NodeWrites.{fixedAt}
+use Rattle.tables.specs.World.{Tables}
+use Rattle.trees.specs.Members.{Distinct, All}
+use Rattle.trees.specs.Count.{count, count-most, count-same, distinct-count}
+use Rattle.trees.specs.Scanning.{Stand, at, distinct-pending}
+use Rattle.trees.specs.Bound.{early, is-early, visited-most, visiting-most, seeing-most}
+use Rattle.views.specs.View.{View, view}
+use Rattle.protocol.specs.Ghost.{Ghost}
+use Rattle.protocol.specs.Invariant.{Holds}
+use Rattle.protocol.specs.Trees.{leafOf, store}
+use Rattle.protocol.specs.ScanPlaces.{helpLeft, OnWalk, AtNode, ScanKnows}
+
+unfoldable pub innerNodes : View → ℕ → ℕ
+innerNodes X i = count (X .nodes) (early (store X) i)
+
+-- the same, read off the tables
+pub inner-nodes : (s : Tables) (i : ℕ) → innerNodes (view s) i ≡ count (s .totals .nodes) (λ n. isInternal (s .nodes) (node n) && leb (phaseAt (s .nodes) (node n)) i)
+unfolding innerNodes view early leafOf isInternal fixedAt
+inner-nodes s i = count-same (s .totals .nodes) _ _ (λ n l. rw (twice (isInternal (s .nodes) (node n))))
+  where
+    twice : (b : Bool) → not (not b) ≡ b
+    twice true = refl
+    twice false = refl
+
+-- different internal nodes in use, of phase i or earlier, are no more than I
+pub inner-most : (X : View) (i : ℕ) (vs : List ℕ) → Distinct vs → All (λ n. n < X .nodes) vs → All (λ n. leafOf (X .fixed n) ≡ false) vs → All (λ n. X .fixed n .phase ≤ i) vs → length vs ≤ innerNodes X i
+unfolding innerNodes
+inner-most X i vs d used inner low = distinct-count (X .nodes) (early (store X) i) vs d used (λ n m. is-early (store X) i n (inner n m) (low n m))
+
+module _ (X : View) (G : Ghost) (H : Holds X G) {i : ℕ} {us : List ℕ} {found T more : ℕ} where
+  -- what it has visited, and what it stands at
+  pub visits-most : {stand : Stand} (k : OnWalk X G i stand us found T more) → length (k .visited) ≤ innerNodes X i
+  unfolding innerNodes
+  visits-most k = visited-most (X .nodes) (k .visited) (k .walks .scanning) (k .walks .scanning .been .distinct) (λ n m. m) (λ n m. H .used n (k .walks .visited n m))
+
+  pub node-most : {p : ℕ} (k : AtNode X G i p us found T more) → length (k .on .visited) < innerNodes X i
+  unfolding innerNodes
+  node-most k = visiting-most (X .nodes) (k .on .visited) (k .on .walks .scanning) (k .inner) (k .on .walks .scanning .been .distinct) (λ n m. m)
+      (λ n. elim [ inl e ↦ rw e (H .used _ (k .on .walks .here)) | inr m ↦ H .used n (k .on .walks .visited n m) ])
+
+  -- the lists have room: for one more pending node, and for one more key
+  pub pending-room : {p : ℕ} (k : AtNode X G i p us found T more) → length us < X .nodes
+  pending-room k =
+      let few : length us < count (X .nodes) (early (store X) i) = visiting-most (X .nodes) us (k .on .walks .scanning) (k .inner) (distinct-pending (k .on .walks .scanning)) (k .on .walks .scanning .been .pending)
+      (λ n. elim [ inl e ↦ rw e (H .used _ (k .on .walks .here)) | inr m ↦ H .used n (k .on .walks .visited n (k .on .walks .scanning .been .pending n m)) ]) in
+      omega (arith, count-most (X .nodes) (early (store X) i))
+
+  pub found-room : {c : ℕ} (k : OnWalk X G i (at c) us found T more) → leafOf (X .fixed c) ≡ true → found < X .nodes
+  found-room k leaf =
+      let few : length (k .leaves) < count (X .nodes) (λ n. leafOf (X .fixed n)) = seeing-most (X .nodes) (k .walks .scanning) leaf (λ n. elim [ inl e ↦ rw e (H .used _ (k .walks .here)) | inr m ↦ H .used n (k .walks .seen n m) ]) in
+      omega (arith, count-most (X .nodes) (λ n. leafOf (X .fixed n)), k .keys)
+
+module _ (X : View) (G : Ghost) (H : Holds X G) where
+  -- at an internal node all 16 of its turns are not yet taken
+  node-short : {i p found T more : ℕ} {us : List ℕ} → more < 16 → AtNode X G i p us found T more → T < 2 + 16 * innerNodes X i
+  node-short low k = omega (arith, k .on .turns, node-most X G H k)
+
+  pub scan-short : (v : Locals) (us : List ℕ) (found T : ℕ) (q : Place) → ScanKnows X G v us found T q → T < 2 + 16 * innerNodes X (v .seq .0)
+  scan-short v us found T place.Counter74 k = absurd k
+  scan-short v us found T place.Search39 k = absurd k
+  scan-short v us found T (place.Link a b) k = absurd k
+  scan-short v us found T place.Word66 k = absurd k
+  scan-short v us found T place.Grand66 k = absurd k
+  scan-short v us found T place.Leaf164 k = absurd k
+  scan-short v us found T place.Sibling182 k = absurd k
+  scan-short v us found T place.CopyLeft k = absurd k
+  scan-short v us found T place.CopyRight k = absurd k
+  scan-short v us found T place.Word189 k = absurd k
+  scan-short v us found T place.Leaf190 k = absurd k
+  scan-short v us found T place.Frozen97 k = absurd k
+  scan-short v us found T place.State98 k = absurd k
+  scan-short v us found T place.Freeze103 k = absurd k
+  scan-short v us found T (place.Help b Own) k = absurd k
+  scan-short v us found T (place.Help b Again) k = absurd k
+  scan-short v us found T (place.Help b Node) k = let l : T + helpLeft b (v .i) < 2 + 16 * innerNodes X (v .seq .0) = node-short (omega arith) (k .0) in omega arith
+  scan-short v us found T place.Counter130 k = omega (arith, k .taken)
+  scan-short v us found T place.Bump131 k = omega (arith, k .taken)
+  scan-short v us found T place.Word139 k = node-short (omega arith) k
+  scan-short v us found T place.State140 k = node-short (omega arith) (k .0)
+  scan-short v us found T place.Child141 k = node-short (omega arith) k
+  scan-short v us found T place.Left144 k = omega (arith, k .0 .turns, k .1, visits-most X G H (k .0))
