@@ -27,44 +27,24 @@ pub fn play(
 {
     match command {
         Command::Insert(w, k) => {
-            begun(
-                number,
-                w,
-                turns,
-                start_insert(board, w, k, nodes, records, pending, found),
-            )
+            let reply = start_insert(board, w, k, nodes, records, pending, found);
+            begun(number, w, turns, reply)
         }
         Command::Delete(w, k) => {
-            begun(
-                number,
-                w,
-                turns,
-                start_delete(board, w, k, nodes, records, pending, found),
-            )
+            let reply = start_delete(board, w, k, nodes, records, pending, found);
+            begun(number, w, turns, reply)
         }
         Command::Find(w, k) => {
-            begun(
-                number,
-                w,
-                turns,
-                start_find(board, w, k, nodes, records, pending, found),
-            )
+            let reply = start_find(board, w, k, nodes, records, pending, found);
+            begun(number, w, turns, reply)
         }
         Command::Scan(w, a, b) => {
-            begun(
-                number,
-                w,
-                turns,
-                start_scan(board, w, a, b, nodes, records, pending, found),
-            )
+            let reply = start_scan(board, w, a, b, nodes, records, pending, found);
+            begun(number, w, turns, reply)
         }
         Command::Turns(w, n) => {
-            ran(
-                number,
-                w,
-                turns,
-                run(board, w, n, nodes, records, pending, found),
-            )
+            let taken = run(board, w, n, nodes, records, pending, found);
+            ran(number, w, turns, taken)
         }
     }
 }

@@ -46,7 +46,7 @@ fn say(out: i32, line: Line, found: &[i32], from: usize) -> bool {
 // One command at the front of what is left.
 fn show_command(
     out: i32,
-    number: u32,
+    which: u32,
     commands: &[u8],
     at: usize,
     board: Board,
@@ -60,7 +60,7 @@ fn show_command(
     ensures { λ r. ⌜ at + r .taken ≤ length (now (commands .entry)) ⌝ }
 {
     let CommandReading::Read(command, taken) = read_command(&commands[at..]) else {
-        let said = say(out, Line::Bad(number), found, 0);
+        let said = say(out, Line::Bad(which), found, 0);
         return Shown {
             taken: 0,
             said,
@@ -68,16 +68,7 @@ fn show_command(
             turns,
         };
     };
-    let played = play(
-        number,
-        command,
-        board,
-        turns,
-        nodes,
-        records,
-        pending,
-        found,
-    );
+    let played = play(which, command, board, turns, nodes, records, pending, found);
     let line = played.line;
     let board = played.board;
     let turns = played.turns;
@@ -122,11 +113,8 @@ fn show_commands(
         );
         board = shown.board;
         turns = shown.turns;
-        if shown.taken == 0 {
+        if shown.taken == 0 || !shown.said {
             return shown.said;
-        }
-        if !shown.said {
-            return false;
         }
         at += shown.taken;
     }

@@ -67,21 +67,6 @@ end-line-requires c κs = search needs
 say-requires : tie.Need-say-requires Inv-loop μ-loop
 say-requires c κs = search needs
 
-same-length-9 : tie.Need-same-length-9 Inv-loop μ-loop
-same-length-9 c = search needs
-
-same-length-10 : tie.Need-same-length-10 Inv-loop μ-loop
-same-length-10 c = search needs
-
-same-length-11 : tie.Need-same-length-11 Inv-loop μ-loop
-same-length-11 c = search needs
-
-same-length-12 : tie.Need-same-length-12 Inv-loop μ-loop
-same-length-12 c = search needs
-
-returns-3 : tie.Need-returns-3 Inv-loop μ-loop
-returns-3 c = search needs
-
 pub show-commands-spec : {M : Type 1} → statement M
 show-commands-spec =
     tie.close
@@ -96,18 +81,13 @@ show-commands-spec =
     same-length-3
     same-length-4
     returns
-    same-length-5
-    same-length-6
-    same-length-7
-    same-length-8
-    returns-2
     add-at
     loop-less
     loop-again
     end-line-requires
     say-requires
-    same-length-9
-    same-length-10
-    same-length-11
-    same-length-12
-    returns-3)
+    same-length-5
+    same-length-6
+    same-length-7
+    same-length-8
+    returns-2)
