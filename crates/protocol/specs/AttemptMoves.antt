@@ -64,21 +64,3 @@ module _ (w : ℕ) (s : Tables) (h : TablesSound s) (G : Ghost) (H : Holds (view
   attempt-decides o k v place.State140 a = tt
   attempt-decides o k v place.Child141 a = tt
   attempt-decides o k v place.Left144 a = tt
-
-  -- the turn, where it is accepted
-  pub attempt-moves : (o : Kind) (k : Key) (v : Locals) (q : Place) → AttemptKnows w (view s) G o k v q → (d : Step) → attempt s o k v q ≡ decision.Go d → Gives w (view s) (view (apply (d .effect) s)) G (λ G′. NextKnows w (view (apply (d .effect) s)) G′ o k (d .hand) (d .next))
-  attempt-moves o k v q a d e = subst (Decides w s G o k) e (attempt-decides o k v q a)
-
-  -- the same of `decide`, by operation
-  module _ (ls : Lists) (k : Key) (v : Locals) (q : Place) (d : Step) where
-    pub insert-moves : AttemptKnows w (view s) G kind.Insert k v q → decide s ls (Insert k q) v ≡ decision.Go d → Gives w (view s) (view (apply (d .effect) s)) G (λ G′. NextKnows w (view (apply (d .effect) s)) G′ kind.Insert k (d .hand) (d .next))
-    unfolding decide
-    insert-moves a e = attempt-moves kind.Insert k v q a d e
-
-    pub delete-moves : AttemptKnows w (view s) G kind.Delete k v q → decide s ls (Delete k q) v ≡ decision.Go d → Gives w (view s) (view (apply (d .effect) s)) G (λ G′. NextKnows w (view (apply (d .effect) s)) G′ kind.Delete k (d .hand) (d .next))
-    unfolding decide
-    delete-moves a e = attempt-moves kind.Delete k v q a d e
-
-    pub find-moves : AttemptKnows w (view s) G kind.Find k v q → decide s ls (Find k q) v ≡ decision.Go d → Gives w (view s) (view (apply (d .effect) s)) G (λ G′. NextKnows w (view (apply (d .effect) s)) G′ kind.Find k (d .hand) (d .next))
-    unfolding decide
-    find-moves a e = attempt-moves kind.Find k v q a d e

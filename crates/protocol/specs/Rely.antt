@@ -34,7 +34,6 @@ pub record Rely (w : ℕ) (X X′ : View) (G G′ : Ghost) : Type 0 where
   -- what grows
   pub nodes : X .nodes ≤ X′ .nodes
   pub records : X .records ≤ X′ .records
-  pub counter : X .counter ≤ X′ .counter
   pub linked : (v : ℕ) → G .linked v ≡ true → G′ .linked v ≡ true
   pub froze : (r v : ℕ) → G .froze r v ≡ true → G′ .froze r v ≡ true
   pub tried : (r : ℕ) → G .tried r ≡ true → G′ .tried r ≡ true
@@ -65,7 +64,6 @@ rely-same w X G = record {
   owner = λ r l. refl;
   nodes = omega arith;
   records = omega arith;
-  counter = omega arith;
   linked = λ v h. h;
   froze = λ r v h. h;
   tried = λ r h. h;
@@ -82,8 +80,8 @@ rely-same w X G = record {
   mine = λ v l h m o u. (h, λ s. refl);
 }
 
-pub rely-counter : (w : ℕ) (X : View) (G : Ghost) (c : ℕ) → X .counter ≤ c → Rely w X (wCounter X c) G G
-rely-counter w X G c le = record {
+pub rely-counter : (w : ℕ) (X : View) (G : Ghost) (c : ℕ) → Rely w X (wCounter X c) G G
+rely-counter w X G c = record {
   filled = λ r f. record { used = f .used; some = f .some };
   filling = λ r f. refl;
   fixed = λ v l. refl;
@@ -91,7 +89,6 @@ rely-counter w X G c le = record {
   owner = λ r l. refl;
   nodes = omega arith;
   records = omega arith;
-  counter = le;
   linked = λ v h. h;
   froze = λ r v h. h;
   tried = λ r h. h;
@@ -161,7 +158,6 @@ rely-freeze w X G H r j m f l live hit order alive own = record {
   owner = λ q l. refl;
   nodes = omega arith;
   records = omega arith;
-  counter = omega arith;
   linked = λ v h. h;
   froze = λ q v h. froze-more G r (nodeOf (X .filling r) j) q v h;
   tried = λ q h. h;
@@ -207,7 +203,6 @@ rely-state w X G H r v t S up more shown = record {
   owner = λ q l. refl;
   nodes = omega arith;
   records = omega arith;
-  counter = omega arith;
   linked = λ y h. h;
   froze = λ q y h. h;
   tried = λ q h. by-equal q r (λ e. rw e (more (rw e at h))) (λ e. S .other q e ∙ h);
@@ -235,7 +230,6 @@ rely-fill w X G H r f F own = record {
   owner = λ q l. refl;
   nodes = omega arith;
   records = omega arith;
-  counter = omega arith;
   linked = λ v h. h;
   froze = λ q v h. h;
   tried = λ q h. h;

@@ -43,7 +43,6 @@ module _ (w : ℕ) (X : View) (G : Ghost) (H : Holds X G) (r : ℕ) (f : Filled 
     owner = λ q l. refl;
     nodes = omega arith;
     records = omega arith;
-    counter = omega arith;
     linked = more;
     froze = λ q v h. h;
     tried = λ q h. h;
@@ -81,7 +80,6 @@ rely-aside w X X′ G G′ P H A B = record {
   owner = B .owner;
   nodes = A .nodes;
   records = A .records;
-  counter = B .counter;
   linked = λ v h. rw (A .linked) h;
   froze = λ q v h. rw (A .froze) h;
   tried = λ q h. rw (A .tried) h;

@@ -37,11 +37,6 @@ inner-nodes s i = count-same (s .totals .nodes) _ _ (λ n l. rw (twice (isIntern
     twice true = refl
     twice false = refl
 
--- different internal nodes in use, of phase i or earlier, are no more than I
-pub inner-most : (X : View) (i : ℕ) (vs : List ℕ) → Distinct vs → All (λ n. n < X .nodes) vs → All (λ n. leafOf (X .fixed n) ≡ false) vs → All (λ n. X .fixed n .phase ≤ i) vs → length vs ≤ innerNodes X i
-unfolding innerNodes
-inner-most X i vs d used inner low = distinct-count (X .nodes) (early (store X) i) vs d used (λ n m. is-early (store X) i n (inner n m) (low n m))
-
 module _ (X : View) (G : Ghost) (H : Holds X G) {i : ℕ} {us : List ℕ} {found T more : ℕ} where
   -- what it has visited, and what it stands at
   pub visits-most : {stand : Stand} (k : OnWalk X G i stand us found T more) → length (k .visited) ≤ innerNodes X i

@@ -76,7 +76,7 @@ module _ (w : ℕ) (s : Tables) (h : TablesSound s) (G : Ghost) (H : Holds (view
         (λ _. (looks w s G H tt, omega (arith, k .taken)))
       where
         L : Rely w (view s) (wCounter (view s) (s .totals .counter + 1)) G G
-        L = rely-counter w (view s) G (s .totals .counter + 1) (omega arith)
+        L = rely-counter w (view s) G (s .totals .counter + 1)
 
         t : TreeStep (view s) (wCounter (view s) (s .totals .counter + 1)) G G
         t = inl (record { fixed = λ n u. refl; kid = λ e n u. refl })

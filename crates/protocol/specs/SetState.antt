@@ -113,10 +113,6 @@ module _ (X : View) (G : Ghost) (H : Holds X G) (r : ℕ) (f : Filled X r) where
   R : RecordHolds X G r (X .filling r)
   R = H .records r f
 
-  -- a record that is lost is not frozen all over
-  pub lost-not-all : Lost X G r (X .filling r) → FrozeAll G r (X .filling r) → ⊥
-  lost-not-all h all = true≢false (sym (all (h .at) (h .list)) ∙ h .not)
-
   -- line 113
   pub sets-try : X .state r ≡ undecided → Sets X G r trying (change (G .tried) r true)
   sets-try e = record { filled = f; live = λ _. omega arith; final = λ h. absurd (omega arith); most = omega arith; tried = λ _. omega arith; tries = λ _. change-same (G .tried) r true; commits = λ z. absurd (omega arith); aborts = λ z. absurd (omega arith); other = λ q ne. change-other (G .tried) r true q ne }

@@ -30,8 +30,5 @@ module _ (used : ℕ) {S : Store} {i : ℕ} {a : Bool} {us vs ls : List ℕ} whe
       (λ n. elim [ inl e ↦ rw e (is-early S i cur inner (G .reads .0)) | inr m ↦ is-early S i n (G .been .inner n (of n m)) (G .been .low n (of n m)) ])
 
   -- leaves
-  pub seen-most : {stand : Stand} → Scanning S i a stand us vs ls → All (λ n. n < used) ls → length ls ≤ count used (S .leaf)
-  seen-most G below = distinct-count used (S .leaf) ls (G .been .distinct-leaves) below (G .been .leaves)
-
   pub seeing-most : {cur : ℕ} → Scanning S i a (at cur) us vs ls → S .leaf cur ≡ true → All (λ n. n < used) (cur ∷ ls) → length ls < count used (S .leaf)
   seeing-most {cur} G leaf below = distinct-count used (S .leaf) (cur ∷ ls) (current-new G .2, G .been .distinct-leaves) below (λ n. elim [ inl e ↦ rw e leaf | inr m ↦ G .been .leaves n m ])

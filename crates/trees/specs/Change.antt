@@ -19,13 +19,7 @@ module _ (S : Store) (d : Bool) (p new : ℕ) where
   walk-set (here h) = here h
   walk-set (back h e w) = back h e (walk-set w)
 
-  -- versions before the new child's phase are as they were
-  pub tree-earlier : {i v : ℕ} {s : Shape} → i < S .phase new → Replaces → IsTree S i v s → IsTree (setKid S d p new) i v s
-  tree-earlier {i} early e = tree-same (λ n j. refl) (λ f n c j h w. changeOn-case (S .kid) d p new (λ k. Walk (setKid S d p new) i k c) f n
-      (λ se sn. back early e (walk-set (rw (se, sn) at w)))
-      (λ _. walk-set w))
-
-  -- so is a tree that does not have p
+  -- a tree that does not have p is as it was
   pub tree-without : {i v : ℕ} {s : Shape} → (In p s → ⊥) → IsTree S i v s → IsTree (setKid S d p new) i v s
   tree-without {i} {v} {s} out = tree-same (λ n j. refl) (λ f n c j h w. changeOn-case (S .kid) d p new (λ k. Walk (setKid S d p new) i k c) f n
       (λ _ sn. absurd (out (rw sn at j)))

@@ -38,23 +38,6 @@ unfolding count
 count-same zero p q h = refl
 count-same (suc n) p q h = ap₂ (λ a b. one a + b) (h n (omega arith)) (count-same n p q (λ k l. h k (omega arith)))
 
-count-passed : (n : ℕ) (p q : ℕ → Bool) → ((k : ℕ) → k < n → p k ≡ true → q k ≡ true) → count n p ≤ count n q
-unfolding count
-count-passed zero p q h = omega arith
-count-passed (suc n) p q h = omega (arith, count-passed n p q (λ k l. h k (omega arith)), one-grows (p n) (q n) (h n (omega arith)))
-
-count-further : (n m : ℕ) (p : ℕ → Bool) → n ≤ m → count n p ≤ count m p
-unfolding count
-count-further n zero p l = let e : n ≡ 0 = omega arith in rw e (omega arith)
-count-further n (suc m) p l = elim (decLe n m) [
-  | yes k ↦ omega (arith, count-further n m p k)
-  | no k ↦ let e : n ≡ suc m = omega arith in rw e (omega arith)
-]
-
--- below a higher bound, by a test that all who passed pass still, the count is no less
-pub count-grows : (n m : ℕ) (p q : ℕ → Bool) → n ≤ m → ((k : ℕ) → k < n → p k ≡ true → q k ≡ true) → count n p ≤ count m q
-count-grows n m p q l h = omega (arith, count-passed n p q h, count-further n m q l)
-
 -- a number that passes is one of those counted
 count-without : (n : ℕ) (p : ℕ → Bool) (x : ℕ) → x < n → p x ≡ true → count n p ≡ suc (count n (change p x false))
 unfolding count one pick

@@ -6,7 +6,6 @@ pub mod Version
 pub mod Frame
 pub mod Change
 pub mod Updates
-pub mod Graft
 pub mod Been
 pub mod Scanning
 pub mod Moves

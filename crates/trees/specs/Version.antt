@@ -22,10 +22,6 @@ pub record Store : Type 0 where
 abbrev pub setKid : Store → Bool → ℕ → ℕ → Store
 setKid S d p c = record { phase = S .phase; prev = S .prev; leaf = S .leaf; kid = changeOn (S .kid) d p c }
 
-pub setKid-is : (S T : Store) (d : Bool) (p c : ℕ) → T .phase ≡ S .phase → T .prev ≡ S .prev → T .leaf ≡ S .leaf → T .kid d p ≡ c
-    → ((e : Bool) (n : ℕ) → (e ≡ d → n ≡ p → ⊥) → T .kid e n ≡ S .kid e n) → T ≡ setKid S d p c
-setKid-is S T d p c phase prev leaf here there = λ j. record { phase = phase j; prev = prev j; leaf = leaf j; kid = changeOn-is (S .kid) d p c (T .kid) here there j }
-
 abbrev pub nodeNo : ℕ → NodeNo
 nodeNo n = record { 0 = n }
 

@@ -32,9 +32,6 @@ use Rattle.views.specs.View.{View, view, wUpdate, wKid, wState, wRecord,
 view-is : (X Y : View) → X .update ≡ Y .update → X .fixed ≡ Y .fixed → X .kid ≡ Y .kid → X .state ≡ Y .state → X .filling ≡ Y .filling → X .nodes ≡ Y .nodes → X .records ≡ Y .records → X .counter ≡ Y .counter → X ≡ Y
 view-is X Y a b c d e f g h = λ i. record { update = a i; fixed = b i; kid = c i; state = d i; filling = e i; nodes = f i; records = g i; counter = h i }
 
-other-node : (x n : ℕ) → n ≢ x → node n .0 ≢ node x .0
-other-node x n ne e = ne e
-
 module _ (t : Totals) (ns rs : List ℕ) (rows : ℕ) (has : HasRows nodeWidth ns rows) where
   pub view-setUpdate : (x : NodeNo) (u : Update) → x .0 < rows → view (tables t (setUpdate ns x u) rs) ≡ wUpdate (view (tables t ns rs)) (x .0) u
   unfolding view
@@ -86,10 +83,6 @@ module _ (t : Totals) (ns rs : List ℕ) (rows : ℕ) (has : HasRows recordWidth
       refl refl refl
 
 -- ---- Counter, and the takings
-
-pub view-bumped : (t : Totals) (ns rs : List ℕ) → view (tables (bumped t) ns rs) ≡ wCounter (view (tables t ns rs)) (t .counter + 1)
-unfolding view bumped
-view-bumped t ns rs = refl
 
 pub view-taken : (t : Totals) (k : ℕ) (ns rs : List ℕ) → view (tables (taken t k) ns rs) ≡ wUsed (view (tables t ns rs)) (t .nodes + k) (t .records + 1)
 unfolding view taken
