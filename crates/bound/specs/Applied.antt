@@ -7,7 +7,7 @@ use Rattle.shapes.specs.declared.Place.the-variants.{Child141}
 use Rattle.steps.specs.Opened.{stepsOpened}
 use Rattle.steps.specs.Play.{fresh, lent}
 use Rattle.steps.specs.Kept.{isRefused}
-use Rattle.bound.specs.Histories.{Call, delete, turn, asked, after}
+use Rattle.bound.specs.Histories.{Call, delete, asked, after}
 use Rattle.bound.specs.Statement.{HasPhase, NeverWaits, Bound}
 use Rattle.bound.specs.Examples.{key, turns, inserts5, scans}
 use Rattle.bound.specs.Induction.{bound}

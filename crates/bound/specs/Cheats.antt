@@ -14,7 +14,7 @@ use Rattle.steps.specs.Turn.{turnOf}
 use Rattle.steps.specs.Opened.{stepsOpened}
 use Rattle.steps.specs.Play.{fresh}
 use Rattle.steps.specs.Kept.{isRefused}
-use Rattle.bound.specs.Histories.{Call, find, scan, turn, asked, after, counted, turnsOf}
+use Rattle.bound.specs.Histories.{Call, find, scan, asked, after, counted, turnsOf}
 use Rattle.bound.specs.Examples.{key, turns, inserts5, scans, lastOutcome}
 
 -- what the first, second .. turn of P7's scan comes to

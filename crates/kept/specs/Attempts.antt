@@ -1,17 +1,14 @@
 -- Every turn of an insert, a delete or a find is a good decision.
 use Prim.Native.Nat.{ℕ, zero, suc, _+_, _-_, _≤_, _<_}
-use mathlib.Core.Path.{_≡_, refl, sym, ap, _∙_, subst}
+use mathlib.Core.Path.{_≡_, refl, sym, ap}
 use mathlib.Core.Logic.{inl, inr}
-use mathlib.Core.List.{List}
-use mathlib.Core.Bool.{Bool, true, false, false≢true, _&&_, not}
+use mathlib.Core.Bool.{Bool, true, false, false≢true}
 use native.Mathlib.Omega.{arith}
-use lib.Dec.{eqb, leb, ltb}
-use borrow.Author.Tests.{ltb-true, ltb-false, eqb-true}
+use lib.Dec.{eqb}
+use borrow.Author.Tests.{ltb-true}
 use Rattle.laws.specs.Choice.{pick, fork}
-use Rattle.laws.specs.Tests.{Says, says-and, says-le, says-eq, says-itself}
+use Rattle.laws.specs.Tests.{says-and, says-le, says-eq, says-itself}
 use Rattle.shapes.specs.declared.NodeNo.{NodeNo}
-use Rattle.shapes.specs.declared.RecordNo.{RecordNo}
-use Rattle.shapes.specs.declared.Phase.{Phase}
 use Rattle.shapes.specs.declared.Key.{Key}
 use Rattle.shapes.specs.declared.Update.{Update}
 use Rattle.shapes.specs.declared.Totals.{Totals}
@@ -36,25 +33,25 @@ use Rattle.shapes.specs.declared.Back.{Back}
 use Rattle.shapes.specs.declared.Back.the-variants.{Own, Again, Node}
 use Rattle.shapes.specs.declared.Effect.the-variants as effect
 use Rattle.shapes.specs.declared.Answer.the-variants.{Yes, No, NoRoom}
-use Rattle.tables.specs.Names.{node, recordNo, root, dummy, flag, update, sameNode, sameUpdate}
-use Rattle.tables.specs.Nodes.{kindAt, isInternal, keyAt, childAt, updateAt}
-use Rattle.tables.specs.Records.{countAt, stateAt, entryAt, inProgress, helpable, fillable, entry}
-use Rattle.tables.specs.Versions.{readChild, asParent}
-use Rattle.tables.specs.World.{Tables, blank}
+use Rattle.tables.specs.Names.{node, recordNo, root, dummy, flag, update, sameNode}
+use Rattle.tables.specs.Nodes.{isInternal, childAt, updateAt}
+use Rattle.tables.specs.Records.{countAt, fillable, entry}
+use Rattle.tables.specs.Versions.{asParent}
+use Rattle.tables.specs.World.{Tables}
 use Rattle.sound.specs.Homes.{isInsert, isDelete, isUpdate, listed, linkHome, backHome, attemptHome, inList}
 use Rattle.sound.specs.Meaning.{WordSound, MaybeSound, EntrySound, RecordSound, HandSound, Within, TablesSound, entryOf}
-use Rattle.steps.specs.Hand.{atRoot, holding, downTo, withLeaf, withUp, withPup, withGpup, withSup, withLup, withSibling, withTaken, withI, does, goes, retries, through}
+use Rattle.steps.specs.Hand.{holding, withPup, withTaken, does, goes, retries, through}
 use Rattle.steps.specs.Apply.{apply, taken}
-use Rattle.steps.specs.Search.{goesLeft, landed, search39}
-use Rattle.steps.specs.Validate.{word52, state53, child57, linkOf, linkParent, linkChild, linkLeft, siblingLeft}
+use Rattle.steps.specs.Search.{landed, search39}
+use Rattle.steps.specs.Validate.{word52, state53, child57, linkOf, linkParent}
 use Rattle.steps.specs.Attempt.{room, takeThree, takeCopy, reaches182, validated, word66, grand66, sibling182, copyWord, word189, leafWord, held, linkNext, linkStep}
 use Rattle.steps.specs.Execute.{frozen, oldUpdate, insertFilling, deleteFilling, fillInsert, fillDelete, fills, frozen97, state98, freeze103}
 use Rattle.steps.specs.Help.{helpOf, helpNext}
 use Rattle.steps.specs.Decide.{attempt}
-use Rattle.kept.specs.Later.{Grows, hand-later}
-use Rattle.kept.specs.Effects.{Parent, Room, Fillable, Fits, grows-taken}
-use Rattle.kept.specs.Good.{Allowed, Good, hand-downTo, hand-leaf, hand-up, hand-pup, hand-gpup, hand-sup, hand-lup, hand-sibling, hand-taken, hand-i, hand-bare, hand-blank, hand-holding, good-does, good-goes, good-says, good-retries, good-helps, good-pick, good-through, parent-at, child-used, read-used}
-use Rattle.kept.specs.Helping.{positive, Helped, helped, entry-sound, help-good, Returns, next-good}
+use Rattle.kept.specs.Later.{hand-later}
+use Rattle.kept.specs.Effects.{Parent, Room, Fillable, grows-taken}
+use Rattle.kept.specs.Good.{Allowed, Good, hand-downTo, hand-leaf, hand-up, hand-pup, hand-gpup, hand-sup, hand-lup, hand-sibling, hand-taken, hand-i, hand-bare, hand-holding, good-does, good-goes, good-says, good-retries, good-helps, good-pick, good-through, parent-at, child-used, read-used}
+use Rattle.kept.specs.Helping.{positive, helped, entry-sound, help-good, Returns, next-good}
 
 -- ---- kinds
 

@@ -1,15 +1,15 @@
 -- What an effect needs so that the tables stay sound, and that it is enough.
-use Prim.Native.Nat.{ℕ, zero, suc, _+_, _≤_, _<_}
+use Prim.Native.Nat.{ℕ, suc, _+_, _≤_, _<_}
 use mathlib.Core.Path.{_≡_, refl, sym, ap, _∙_, subst}
-use mathlib.Core.Logic.{_≢_, _⊎_, inl, inr}
+use mathlib.Core.Logic.{_≢_, inl}
 use mathlib.Core.List.{List}
 use mathlib.Core.Bool.{Bool, true, false}
 use native.Mathlib.Omega.{arith}
 use native.Mathlib.Decide.{decLe, ℕ-discrete}
-use native.Mathlib.Numerals.{add-one, add-two, add-three}
-use lib.Dec.{ltb, eqb}
+use native.Mathlib.Numerals.{add-one}
+use lib.Dec.{ltb}
 use borrow.Author.Tests.{eqb-true}
-use Rattle.laws.specs.Choice.{pick, fork}
+use Rattle.laws.specs.Choice.{fork}
 use Rattle.shapes.specs.Numbers.{lastPhase}
 use Rattle.shapes.specs.declared.NodeNo.{NodeNo}
 use Rattle.shapes.specs.declared.RecordNo.{RecordNo}
@@ -26,13 +26,13 @@ use Rattle.shapes.specs.declared.Effect.the-variants as effect
 use Rattle.tables.specs.Names.{node, recordNo, root, dummy, finite, value, freshWord}
 use Rattle.tables.specs.Rows.{HasRows}
 use Rattle.tables.specs.Nodes.{nodeWidth, kindAt, isInternal, rankAt, childAt, updateAt, setChild, setUpdate, newNode}
-use Rattle.tables.specs.NodeWrites.{Fixed, fixedAt, rows-setChild, fixed-setChild, update-setChild, child-setChild-case, rows-setUpdate, fixed-setUpdate, child-setUpdate, update-setUpdate-case, rows-newNode, fixed-newNode-node, child-newNode-node, update-newNode-node, fixed-newNode-same, child-newNode-left, child-newNode-right, update-newNode-same}
-use Rattle.tables.specs.Records.{recordWidth, undecided, aborted, countAt, stateAt, setState, newRecord, unfilled}
+use Rattle.tables.specs.NodeWrites.{fixedAt, rows-setChild, fixed-setChild, update-setChild, child-setChild-case, rows-setUpdate, fixed-setUpdate, child-setUpdate, update-setUpdate-case, rows-newNode, fixed-newNode-node, child-newNode-node, update-newNode-node, fixed-newNode-same, child-newNode-left, child-newNode-right, update-newNode-same}
+use Rattle.tables.specs.Records.{undecided, aborted, countAt, stateAt, setState, newRecord, unfilled}
 use Rattle.tables.specs.RecordWrites.{fillingAt, rows-setState, filling-setState, state-setState-same, state-setState-record, rows-newRecord, filling-newRecord-record, state-newRecord-record, filling-newRecord-same, state-newRecord-same}
 use Rattle.tables.specs.World.{Tables, tables}
-use Rattle.sound.specs.Meaning.{WordSound, PrevSound, RankSound, NodeSound, RootSound, UsedSound, EntrySound, CountSound, RecordSound, TablesSound}
+use Rattle.sound.specs.Meaning.{WordSound, RankSound, NodeSound, UsedSound, RecordSound, TablesSound}
 use Rattle.steps.specs.Apply.{bumped, taken, topOf, threeNodes, copyOf, takenRecord, apply}
-use Rattle.kept.specs.Later.{Grows, grows-same, node-later, KeepsFixed, record-later, KeepsCounts, Later, internal-fixed}
+use Rattle.kept.specs.Later.{Grows, grows-same, node-later, KeepsFixed, record-later, KeepsCounts, Later}
 
 -- a node that is used and internal
 pub record Parent (s : Tables) (x : NodeNo) : Type 0 where

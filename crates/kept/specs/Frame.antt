@@ -1,21 +1,15 @@
 -- What a turn leaves alone, from any sound tables.
-use Prim.Native.Nat.{ℕ, zero, suc, _+_, _*_, _-_, _≤_, _<_}
-use mathlib.Core.Path.{_≡_, refl, sym, ap, _∙_, subst}
+use Prim.Native.Nat.{ℕ, _-_, _<_}
+use mathlib.Core.Path.{_≡_, refl, ap, subst}
 use mathlib.Core.Logic.{_≢_}
-use mathlib.Core.List.{List}
-use mathlib.Core.Bool.{Bool, true, false}
 use native.Mathlib.Omega.{arith}
-use native.Mathlib.Decide.{ℕ-discrete}
-use lib.ListN.{getD, set}
+use lib.ListN.{getD}
 use lib.Seq.{getD-set-other}
 use lib.IntN.{ℤ}
 use lib.Dec.{ltb}
 use borrow.Author.Tests.{ltb-true}
-use Rattle.laws.specs.Choice.{pick, fork}
-use Rattle.shapes.specs.declared.NodeNo.{NodeNo}
+use Rattle.laws.specs.Choice.{fork}
 use Rattle.shapes.specs.declared.RecordNo.{RecordNo}
-use Rattle.shapes.specs.declared.Filling.{Filling}
-use Rattle.shapes.specs.declared.Worker.{Worker}
 use Rattle.shapes.specs.declared.Operation.{Operation}
 use Rattle.shapes.specs.declared.Condition.{Condition}
 use Rattle.shapes.specs.declared.Condition.the-variants.{Idle, Busy}
@@ -31,12 +25,10 @@ use Rattle.shapes.specs.declared.Decision.the-variants as decision
 use Rattle.tables.specs.Names.{recordNo}
 use Rattle.tables.specs.Records.{countAt, undecided, aborted, unfilled}
 use Rattle.tables.specs.RecordWrites.{fillingAt, filling-setState, filling-newRecord-record}
-use Rattle.tables.specs.World.{Tables, World, totalsOf, tablesOf, idle, workerAt, spot, pendingAt}
+use Rattle.tables.specs.World.{Tables, World, totalsOf, tablesOf, idle, workerAt, spot}
 use Rattle.tables.specs.Fresh.{Left}
 use Rattle.sound.specs.Sound.{soundOf}
 use Rattle.sound.specs.Meaning.{ConditionSound, Sound}
-use Rattle.steps.specs.Scan.{Lists}
-use Rattle.steps.specs.Decide.{decide}
 use Rattle.steps.specs.Apply.{apply, takenRecord}
 use Rattle.steps.specs.Turn.{pushed, added, settled, settle, listsOf, stepOn, stepOf, turnOf}
 use Rattle.kept.specs.Later.{KeepsFixed, Later, grows-same}

@@ -1,29 +1,26 @@
 -- Fresh tables are sound.
-use Prim.Native.Nat.{ℕ, zero, suc, _+_, _*_, _-_, _≤_, _<_}
-use mathlib.Core.Path.{_≡_, refl, sym, ap, _∙_, subst}
-use mathlib.Core.Logic.{inl, inr}
-use mathlib.Core.List.{List, [], _∷_, _++_}
-use mathlib.Core.Bool.{Bool, true, false, _&&_}
+use Prim.Native.Nat.{ℕ, _*_, _-_, _≤_, _<_}
+use mathlib.Core.Path.{_≡_, refl, _∙_}
+use mathlib.Core.Logic.{inr}
+use mathlib.Core.List.{List}
+use mathlib.Core.Bool.{true, _&&_}
 use native.Mathlib.Omega.{arith}
 use lib.ListN.{length, getD, drop, replicate, length-append, length-drop, length-replicate, getD-replicate, List·getD-append}
-use Rattle.laws.specs.Choice.{pick, fork}
-use Rattle.laws.specs.Tests.{Says, says-and, says-itself}
+use Rattle.laws.specs.Choice.{pick}
+use Rattle.laws.specs.Tests.{says-and}
 use Rattle.shapes.specs.declared.NodeNo.{NodeNo}
-use Rattle.shapes.specs.declared.Rank.{Rank}
 use Rattle.shapes.specs.declared.Totals.{Totals}
-use Rattle.shapes.specs.declared.Worker.{Worker}
-use Rattle.shapes.specs.declared.MaybeNode.{MaybeNode}
-use Rattle.shapes.specs.declared.MaybeNode.the-variants.{Absent, At}
+use Rattle.shapes.specs.declared.MaybeNode.the-variants.{Absent}
 use Rattle.tables.specs.Names.{node, phase, root, dummy, infinite, freshWord}
 use Rattle.tables.specs.Rows.{HasRows}
 use Rattle.tables.specs.Nodes.{nodeWidth, newNode}
-use Rattle.tables.specs.NodeWrites.{Fixed, fixedAt, rows-newNode, fixed-newNode-same}
-use Rattle.tables.specs.Records.{recordWidth, aborted, unfilled, newRecord}
+use Rattle.tables.specs.NodeWrites.{fixedAt, rows-newNode, fixed-newNode-same}
+use Rattle.tables.specs.Records.{recordWidth, aborted, unfilled}
 use Rattle.tables.specs.RecordWrites.{rows-newRecord, filling-newRecord-same, state-newRecord-same}
-use Rattle.tables.specs.World.{Tables, World, totalsOf, tablesOf, idle, blank, workerAt, pendingAt}
-use Rattle.tables.specs.Fresh.{Left, sizesOk, lentOk, cleared, freshNodes, freshRecords, freshBoard, freshWorld, freshOf}
+use Rattle.tables.specs.World.{World, tablesOf, idle, workerAt}
+use Rattle.tables.specs.Fresh.{sizesOk, lentOk, cleared, freshNodes, freshRecords, freshBoard, freshWorld, freshOf}
 use Rattle.sound.specs.Sound.{soundOf}
-use Rattle.sound.specs.Meaning.{WordSound, RankSound, NodeSound, RootSound, SizesSound, UsedSound, HandSound, WorkerSound, TablesSound, Sound}
+use Rattle.sound.specs.Meaning.{WordSound, RankSound, NodeSound, RootSound, SizesSound, WorkerSound, TablesSound, Sound}
 use Rattle.sound.specs.Agree.{says-sizes, says-lent, says-sound}
 use Rattle.kept.specs.Effects.{NodesSound, nodes-new, keeps-new}
 

@@ -1,6 +1,6 @@
 -- What a decision must be so that the worker that takes it stays sound, and how such decisions are put together.
-use Prim.Native.Nat.{ℕ, zero, suc, _+_, _≤_, _<_}
-use mathlib.Core.Path.{_≡_, refl, sym, ap, _∙_, subst}
+use Prim.Native.Nat.{ℕ, zero, suc, _≤_, _<_}
+use mathlib.Core.Path.{_≡_, refl, ap}
 use mathlib.Core.List.{List}
 use mathlib.Core.Bool.{Bool, true, false}
 use native.Mathlib.Omega.{arith}
@@ -30,16 +30,16 @@ use Rattle.shapes.specs.declared.Next.the-variants as next
 use Rattle.shapes.specs.declared.Step.{Step}
 use Rattle.shapes.specs.declared.Decision.{Decision}
 use Rattle.shapes.specs.declared.Decision.the-variants as decision
-use Rattle.tables.specs.Names.{node, phase, root, dummy, freshWord}
+use Rattle.tables.specs.Names.{phase, root, dummy, freshWord}
 use Rattle.tables.specs.Nodes.{isInternal, phaseAt, prevAt, childAt}
 use Rattle.tables.specs.NodeWrites.{fixedAt}
 use Rattle.tables.specs.Versions.{walkBack, readChild, asParent}
 use Rattle.tables.specs.World.{Tables, blank}
 use Rattle.sound.specs.Homes.{inList}
 use Rattle.sound.specs.Meaning.{WordSound, MaybeSound, PrevSound, HandSound, Within, TablesSound}
-use Rattle.steps.specs.Hand.{atRoot, atNode, atWord, holding, downTo, withLeaf, withUp, withPup, withGpup, withSup, withLup, withSibling, withTaken, withI, does, goes, says, retries, helps, through}
+use Rattle.steps.specs.Hand.{atWord, holding, downTo, withLeaf, withUp, withPup, withGpup, withSup, withLup, withSibling, withTaken, withI, does, goes, says, retries, helps, through}
 use Rattle.steps.specs.Apply.{apply}
-use Rattle.steps.specs.Turn.{pendingLeft, foundLeft}
+use Rattle.steps.specs.Turn.{pendingLeft}
 use Rattle.kept.specs.Effects.{Parent, Fits, kind-one}
 
 -- ---- good decisions

@@ -1,24 +1,15 @@
 -- HELP's turns are good decisions, wherever HELP returns to.
 use Prim.Native.Nat.{ℕ, zero, suc, _+_, _-_, _≤_, _<_}
-use mathlib.Core.Path.{_≡_, refl, sym, ap, _∙_, subst}
+use mathlib.Core.Path.{_≡_, refl, sym, _∙_, subst}
 use mathlib.Core.Logic.{_⊎_, inl, inr}
-use mathlib.Core.List.{List}
-use mathlib.Core.Bool.{Bool, true, false, false≢true, _&&_, not}
+use mathlib.Core.Bool.{Bool, true, false, false≢true, not}
 use native.Mathlib.Omega.{arith}
-use lib.Dec.{eqb, leb, ltb}
-use borrow.Author.Tests.{ltb-true, ltb-false, leb-true, eqb-true, eqb-false, not-true}
+use lib.Dec.{eqb}
+use borrow.Author.Tests.{ltb-true}
 use Rattle.laws.specs.Choice.{pick, fork}
-use Rattle.laws.specs.Tests.{Says, says-and, says-le, says-itself}
-use Rattle.shapes.specs.declared.NodeNo.{NodeNo}
+use Rattle.laws.specs.Tests.{says-and, says-itself}
 use Rattle.shapes.specs.declared.RecordNo.{RecordNo}
-use Rattle.shapes.specs.declared.Phase.{Phase}
-use Rattle.shapes.specs.declared.Key.{Key}
-use Rattle.shapes.specs.declared.Update.{Update}
-use Rattle.shapes.specs.declared.Totals.{Totals}
 use Rattle.shapes.specs.declared.Locals.{Locals}
-use Rattle.shapes.specs.declared.Filling.{Filling}
-use Rattle.shapes.specs.declared.MaybeNode.{MaybeNode}
-use Rattle.shapes.specs.declared.MaybeNode.the-variants.{Absent, At}
 use Rattle.shapes.specs.declared.HelpStep.{HelpStep}
 use Rattle.shapes.specs.declared.HelpStep.the-variants.{Counter111, Abort112, Try113, State114, Freeze117, Frozen119, Child123, Commit124, State125, Abort126, State127}
 use Rattle.shapes.specs.declared.HelpMove.{HelpMove}
@@ -30,19 +21,19 @@ use Rattle.shapes.specs.declared.Place.the-variants as place
 use Rattle.shapes.specs.declared.Effect.{Effect}
 use Rattle.shapes.specs.declared.Effect.the-variants as effect
 use Rattle.shapes.specs.declared.Answer.the-variants.{Yes}
-use Rattle.tables.specs.Names.{node, recordNo, dummy, update, sameNode, sameRecord, sameUpdate}
-use Rattle.tables.specs.Nodes.{isInternal, keyAt, childAt, updateAt}
-use Rattle.tables.specs.Records.{undecided, trying, committed, aborted, countAt, stateAt, parAt, oldChildAt, newChildAt, seqAt, entryAt, helpable}
+use Rattle.tables.specs.Names.{node, dummy}
+use Rattle.tables.specs.Nodes.{isInternal}
+use Rattle.tables.specs.Records.{trying, committed, aborted, countAt, stateAt, parAt, oldChildAt, newChildAt, entryAt, helpable}
 use Rattle.tables.specs.RecordWrites.{fillingAt}
 use Rattle.tables.specs.World.{Tables}
 use Rattle.sound.specs.Homes.{inList}
-use Rattle.sound.specs.Meaning.{WordSound, EntrySound, CountSound, RecordSound, HandSound, TablesSound, entryOf}
+use Rattle.sound.specs.Meaning.{EntrySound, CountSound, RecordSound, HandSound, TablesSound}
 use Rattle.sound.specs.Agree.{entry-of, count-small}
-use Rattle.steps.specs.Hand.{atNode, withI, says, retries}
+use Rattle.steps.specs.Hand.{withI}
 use Rattle.steps.specs.Apply.{apply}
 use Rattle.steps.specs.Help.{counter111, stateCas, state114, freezeCas, frozen119, casChild, state125, helpStep, helpOf, backTo, helpNext}
-use Rattle.kept.specs.Effects.{Parent, Fits}
-use Rattle.kept.specs.Good.{Allowed, Good, hand-i, hand-bare, good-does, good-goes, good-says, good-retries, good-pick}
+use Rattle.kept.specs.Effects.{Fits}
+use Rattle.kept.specs.Good.{Good, hand-i, hand-bare, good-does, good-goes, good-says, good-retries, good-pick}
 
 -- ---- a record that may be helped
 

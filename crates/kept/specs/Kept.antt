@@ -1,9 +1,9 @@
 -- A start or a turn keeps sound tables sound, from any sound tables; a refused one leaves them as they are.
 use Prim.Native.Nat.{ℕ, zero, suc, _+_, _*_, _-_, _≤_, _<_}
-use mathlib.Core.Path.{_≡_, refl, sym, ap, ap₂, _∙_, subst}
+use mathlib.Core.Path.{_≡_, refl, sym, ap, subst}
 use mathlib.Core.Logic.{_≢_}
-use mathlib.Core.List.{List, [], _∷_}
-use mathlib.Core.Bool.{Bool, true, false, false≢true}
+use mathlib.Core.List.{List}
+use mathlib.Core.Bool.{Bool, true}
 use native.Mathlib.Omega.{arith}
 use native.Mathlib.Decide.{decLe, ℕ-discrete}
 use native.Mathlib.Nat.{mul-le-mul-right}
@@ -12,13 +12,11 @@ use lib.Seq.{getD-set-same, getD-set-other, set-out}
 use lib.IntN.{ℤ}
 use lib.Dec.{ltb}
 use borrow.Author.Tests.{ltb-true}
-use Rattle.laws.specs.Choice.{pick, fork}
-use Rattle.shapes.specs.declared.NodeNo.{NodeNo}
+use Rattle.laws.specs.Choice.{fork}
 use Rattle.shapes.specs.declared.Key.{Key}
 use Rattle.shapes.specs.declared.Totals.{Totals}
 use Rattle.shapes.specs.declared.Locals.{Locals}
 use Rattle.shapes.specs.declared.Worker.{Worker}
-use Rattle.shapes.specs.declared.Kind.{Kind}
 use Rattle.shapes.specs.declared.Kind.the-variants as kind
 use Rattle.shapes.specs.declared.Place.{Place}
 use Rattle.shapes.specs.declared.Place.the-variants as place
@@ -41,13 +39,13 @@ use Rattle.tables.specs.World.{Tables, World, totalsOf, tablesOf, blank, idle, 
 use Rattle.tables.specs.Fresh.{Left}
 use Rattle.sound.specs.Homes.{listed, attemptHome, scanHome}
 use Rattle.sound.specs.Sound.{soundOf}
-use Rattle.sound.specs.Meaning.{HandSound, Within, PlaceSound, ConditionSound, WorkerSound, SizesSound, TablesSound, Sound}
+use Rattle.sound.specs.Meaning.{HandSound, Within, PlaceSound, ConditionSound, WorkerSound, TablesSound, Sound}
 use Rattle.sound.specs.Agree.{says-sound}
 use Rattle.steps.specs.Scan.{Lists}
 use Rattle.steps.specs.Decide.{decide}
 use Rattle.steps.specs.Apply.{apply}
-use Rattle.steps.specs.Turn.{moved, pendingLeft, foundLeft, pushed, added, workerNext, settled, settle, listsOf, stepOn, stepOf, turnOf, started, begin, startOf, runFrom, goesOn, Ran}
-use Rattle.kept.specs.Later.{Grows, grows-same, Later, worker-later}
+use Rattle.steps.specs.Turn.{moved, pendingLeft, foundLeft, pushed, added, workerNext, settled, settle, listsOf, stepOn, stepOf, turnOf, started, begin, startOf}
+use Rattle.kept.specs.Later.{Grows, worker-later}
 use Rattle.kept.specs.Effects.{Kept, effect-keeps}
 use Rattle.kept.specs.Good.{PendingFits, FoundFits, NextFits, GoodStep, Good, hand-blank}
 use Rattle.kept.specs.Attempts.{attempt-good}

@@ -1,9 +1,8 @@
 -- Used counts and Counter never fall, sizes stay: what is sound of a number stays sound.
-use Prim.Native.Nat.{ℕ, zero, suc, _+_, _≤_, _<_}
-use mathlib.Core.Path.{_≡_, refl, sym, ap, _∙_}
-use mathlib.Core.Logic.{_⊎_, inl, inr}
+use Prim.Native.Nat.{ℕ, _≤_, _<_}
+use mathlib.Core.Path.{_≡_, refl, ap, _∙_}
+use mathlib.Core.Logic.{inl, inr}
 use mathlib.Core.List.{List}
-use mathlib.Core.Bool.{Bool, true, false}
 use native.Mathlib.Omega.{arith}
 use lib.Dec.{eqb}
 use Rattle.shapes.specs.declared.NodeNo.{NodeNo}
@@ -18,15 +17,14 @@ use Rattle.shapes.specs.declared.MaybeNode.{MaybeNode}
 use Rattle.shapes.specs.declared.MaybeNode.the-variants.{Absent, At}
 use Rattle.shapes.specs.declared.Place.{Place}
 use Rattle.shapes.specs.declared.Place.the-variants as place
-use Rattle.shapes.specs.declared.Operation.{Operation}
 use Rattle.shapes.specs.declared.Operation.the-variants.{Insert, Delete, Find, Scan}
 use Rattle.shapes.specs.declared.Condition.{Condition}
 use Rattle.shapes.specs.declared.Condition.the-variants.{Idle, Busy}
-use Rattle.tables.specs.Nodes.{kindAt, isInternal}
+use Rattle.tables.specs.Nodes.{isInternal}
 use Rattle.tables.specs.NodeWrites.{Fixed, fixedAt}
 use Rattle.tables.specs.Records.{countAt}
 use Rattle.tables.specs.World.{Tables}
-use Rattle.sound.specs.Meaning.{WordSound, MaybeSound, NodeSound, EntrySound, CountSound, RecordSound, HandSound, Within, PlaceSound, ConditionSound, WorkerSound}
+use Rattle.sound.specs.Meaning.{WordSound, MaybeSound, NodeSound, EntrySound, CountSound, RecordSound, HandSound, Within, ConditionSound, WorkerSound}
 
 pub record Grows (t u : Totals) : Type 0 where
   pub n : u .n ≡ t .n

@@ -1,22 +1,15 @@
 -- Every turn of a scan is a good decision.
-use Prim.Native.Nat.{ℕ, zero, suc, _+_, _-_, _≤_, _<_}
-use mathlib.Core.Path.{_≡_, refl, sym, ap, _∙_, subst}
-use mathlib.Core.List.{List}
+use Prim.Native.Nat.{ℕ, zero, suc, _+_, _-_, _<_}
+use mathlib.Core.Path.{_≡_, refl}
 use mathlib.Core.Bool.{Bool, true, false, false≢true}
 use native.Mathlib.Omega.{arith}
-use lib.Dec.{eqb, leb, ltb}
 use borrow.Author.Tests.{ltb-true, eqb-false}
-use Rattle.laws.specs.Choice.{pick, fork}
-use Rattle.shapes.specs.Numbers.{lastPhase}
+use Rattle.laws.specs.Choice.{pick}
 use Rattle.shapes.specs.declared.NodeNo.{NodeNo}
-use Rattle.shapes.specs.declared.RecordNo.{RecordNo}
-use Rattle.shapes.specs.declared.Phase.{Phase}
 use Rattle.shapes.specs.declared.Key.{Key}
-use Rattle.shapes.specs.declared.Totals.{Totals}
 use Rattle.shapes.specs.declared.Locals.{Locals}
 use Rattle.shapes.specs.declared.MaybeNode.{MaybeNode}
-use Rattle.shapes.specs.declared.MaybeNode.the-variants.{Absent, At}
-use Rattle.shapes.specs.declared.HelpStep.{HelpStep}
+use Rattle.shapes.specs.declared.MaybeNode.the-variants.{At}
 use Rattle.shapes.specs.declared.HelpStep.the-variants.{Counter111}
 use Rattle.shapes.specs.declared.Back.{Back}
 use Rattle.shapes.specs.declared.Back.the-variants.{Own, Again, Node}
@@ -30,17 +23,13 @@ use Rattle.shapes.specs.declared.FoundChange.the-variants as found
 use Rattle.shapes.specs.declared.Answer.the-variants.{NoPhase}
 use Rattle.shapes.specs.declared.Decision.{Decision}
 use Rattle.tables.specs.Names.{root, dummy}
-use Rattle.tables.specs.Nodes.{isInternal, keyAt, updateAt}
-use Rattle.tables.specs.Records.{countAt, stateAt, inProgress}
-use Rattle.tables.specs.Versions.{readChild, asParent}
 use Rattle.tables.specs.World.{Tables}
 use Rattle.sound.specs.Homes.{isNode, scanHome, inList}
-use Rattle.sound.specs.Meaning.{MaybeSound, HandSound, TablesSound}
-use Rattle.steps.specs.Hand.{atRoot, atNode, atWord, through}
-use Rattle.steps.specs.Apply.{apply, bumped}
-use Rattle.steps.specs.Scan.{Lists, Range, bump131, word139, state140, within, leaves, comesTo, reads, child141, left144}
+use Rattle.sound.specs.Meaning.{HandSound, TablesSound}
+use Rattle.steps.specs.Hand.{atRoot, through}
+use Rattle.steps.specs.Apply.{apply}
+use Rattle.steps.specs.Scan.{Lists, Range, bump131, word139, state140, leaves, comesTo, reads, child141, left144}
 use Rattle.steps.specs.Turn.{pendingLeft}
-use Rattle.steps.specs.Help.{helpOf, helpNext}
 use Rattle.steps.specs.Decide.{scan}
 use Rattle.kept.specs.Later.{hand-later}
 use Rattle.kept.specs.Effects.{Parent, grows-bump}

@@ -1,13 +1,13 @@
 -- A turn changes at most one changeable word of what was used before it; all that it creates is new.
-use Prim.Native.Nat.{ℕ, zero, suc, _+_, _≤_, _<_}
-use mathlib.Core.Path.{_≡_, refl, sym, ap, ap₂, _∙_, subst}
+use Prim.Native.Nat.{ℕ, _+_, _≤_, _<_}
+use mathlib.Core.Path.{_≡_, refl, ap, _∙_}
 use mathlib.Core.Logic.{_≢_}
 use mathlib.Core.List.{List}
 use mathlib.Core.Bool.{Bool, true, false}
 use native.Mathlib.Omega.{arith}
 use native.Mathlib.Decide.{ℕ-discrete}
 use lib.Dec.{ltb}
-use Rattle.laws.specs.Choice.{pick, fork}
+use Rattle.laws.specs.Choice.{fork}
 use Rattle.shapes.specs.declared.NodeNo.{NodeNo}
 use Rattle.shapes.specs.declared.RecordNo.{RecordNo}
 use Rattle.shapes.specs.declared.Phase.{Phase}
@@ -19,11 +19,11 @@ use Rattle.shapes.specs.declared.MaybeNode.the-variants.{Absent, At}
 use Rattle.shapes.specs.declared.Effect.{Effect}
 use Rattle.shapes.specs.declared.Effect.the-variants as effect
 use Rattle.tables.specs.Names.{node, recordNo, root, finite, value, update}
-use Rattle.tables.specs.Nodes.{nodeWidth, rankAt, childAt, updateAt, setChild, setUpdate, newNode}
+use Rattle.tables.specs.Nodes.{rankAt, childAt, updateAt, setChild, newNode}
 use Rattle.tables.specs.NodeWrites.{child-setChild-node, child-setChild-side, child-setChild-side′, update-setChild, child-setUpdate, update-setUpdate-node, child-newNode-node, update-newNode-node}
 use Rattle.tables.specs.Records.{stateAt}
 use Rattle.tables.specs.RecordWrites.{state-setState-record, state-newRecord-record}
-use Rattle.tables.specs.World.{Tables, tables}
+use Rattle.tables.specs.World.{Tables}
 use Rattle.steps.specs.Apply.{bumped, taken, topOf, threeNodes, copyOf, takenRecord, apply}
 
 -- 01: Counter, a left or right child, an update word, a record's state

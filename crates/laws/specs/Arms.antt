@@ -1,7 +1,7 @@
 -- An arm of a match that names several variants of a type: what a function gives at each of them it gives at the value that
 -- came to the arm.
 use mathlib.Core.Path.{_≡_, sym, ap, _∙_}
-use mathlib.Core.Logic.{_⊎_, inl, inr}
+use mathlib.Core.Logic.{inl, inr}
 use mathlib.Core.List.{List, [], _∷_}
 use Prim.Native.Nat.{ℕ}
 use lib.ListN.{getD, drop, length, replicate}

@@ -1,5 +1,5 @@
 -- A function changed at one place: a number, or a side and a number.
-use mathlib.Core.Path.{_≡_, refl, sym, _∙_, fun-ext}
+use mathlib.Core.Path.{_≡_, refl, fun-ext}
 use mathlib.Core.Logic.{_≢_}
 use mathlib.Core.Bool.{Bool, true, false, true≢false, false≢true, Bool·beq}
 use Prim.Native.Nat.{ℕ}

@@ -1,6 +1,6 @@
 -- A choice by a test, shut: a definition that chooses stays readable in a goal until a law here, or `unfolding pick`, opens it.
 use mathlib.Core.Path.{_≡_, refl}
-use mathlib.Core.Bool.{Bool, true, false, _&&_}
+use mathlib.Core.Bool.{Bool, true, false}
 
 unfoldable pub pick : {A : Type 0} → Bool → A → A → A
 pick true yes-case no-case = yes-case

@@ -1,10 +1,8 @@
--- A part written into a list at a place, and lists all of whose elements are small. Facts that the kit's lists leave out.
-use mathlib.Core.Path.{_≡_, refl, sym, ap, _∙_}
-use mathlib.Core.List.{List, [], _∷_, _++_}
-use Prim.Native.Nat.{ℕ, zero, suc, _+_, _≤_, _<_}
+-- Lists all of whose elements are small. Facts that the kit's lists leave out.
+use mathlib.Core.List.{List, [], _∷_}
+use Prim.Native.Nat.{ℕ, zero, suc, _<_}
 use native.Mathlib.Omega.{arith}
-use lib.ListN.{length, getD, set, take, drop, length-append}
-use lib.Seq.{sets}
+use lib.ListN.{length, getD}
 
 -- every element is below a bound: the bytes of a slice are below 256
 unfoldable pub Below : ℕ → List ℕ → Type 0

@@ -1,7 +1,7 @@
 -- 01, 'Version listing': the finite keys of the leaves reached from the Root through version-i children, from left to right.
 use Prim.Native.Nat.{ℕ, zero, suc}
 use mathlib.Core.List.{List, [], _∷_, _++_}
-use mathlib.Core.Bool.{Bool, true, false, _&&_}
+use mathlib.Core.Bool.{true, false, _&&_}
 use lib.ListN.{length, drop}
 use lib.IntN.{ℤ}
 use lib.Dec.{leb, eqb}

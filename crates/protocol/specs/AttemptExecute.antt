@@ -29,7 +29,7 @@ use Rattle.sound.specs.Meaning.{TablesSound, entryOf}
 use Rattle.sound.specs.Agree.{entry-of}
 use Rattle.steps.specs.Apply.{apply}
 use Rattle.steps.specs.Hand.{holding, withI, does}
-use Rattle.steps.specs.Execute.{frozen, oldUpdate, insertFilling, deleteFilling, fillInsert, fillDelete, fills, frozen97, state98, freeze103}
+use Rattle.steps.specs.Execute.{oldUpdate, insertFilling, deleteFilling, fillInsert, fillDelete, fills, frozen97, state98, freeze103}
 use Rattle.views.specs.View.{View, view}
 use Rattle.views.specs.Effects.{view-newRecord, view-setUpdate}
 use Rattle.protocol.specs.Ghost.{Ghost, nodeOf, Seen, Final}

@@ -1,6 +1,5 @@
 -- Every accepted turn of an insert, a delete or a find keeps the invariant, gives the others what they count on, and knows what its next place needs.
 use Prim.Native.Nat.{ℕ}
-use mathlib.Core.Path.{_≡_, subst}
 use mathlib.Core.Bool.{true, false}
 use Rattle.shapes.specs.declared.Key.{Key}
 use Rattle.shapes.specs.declared.Locals.{Locals}
@@ -9,19 +8,14 @@ use Rattle.shapes.specs.declared.Kind.the-variants as kind
 use Rattle.shapes.specs.declared.Operation.the-variants.{Insert, Delete, Find}
 use Rattle.shapes.specs.declared.Place.{Place}
 use Rattle.shapes.specs.declared.Place.the-variants as place
-use Rattle.shapes.specs.declared.Step.{Step}
-use Rattle.shapes.specs.declared.Decision.the-variants as decision
 use Rattle.tables.specs.World.{Tables}
 use Rattle.sound.specs.Meaning.{TablesSound}
-use Rattle.steps.specs.Apply.{apply}
-use Rattle.steps.specs.Scan.{Lists}
-use Rattle.steps.specs.Decide.{attempt, decide}
+use Rattle.steps.specs.Decide.{attempt}
 use Rattle.views.specs.View.{view}
 use Rattle.protocol.specs.Ghost.{Ghost}
 use Rattle.protocol.specs.Invariant.{Holds}
 use Rattle.protocol.specs.Trees.{Linked, Version}
-use Rattle.protocol.specs.HelpTurns.{Gives}
-use Rattle.protocol.specs.AttemptPlaces.{OfInsert, OfDelete, AttemptKnows, NextKnows}
+use Rattle.protocol.specs.AttemptPlaces.{OfInsert, OfDelete, AttemptKnows}
 use Rattle.protocol.specs.AttemptTurns.{Decides, help-decides}
 use Rattle.protocol.specs.AttemptSearch.{counter74, search-decides}
 use Rattle.protocol.specs.AttemptTakes.{word-decides, grand-decides, sibling-decides}

@@ -18,7 +18,7 @@ use Rattle.protocol.specs.SetState.{gTried, Sets, state-holds, sets-try,
 use Rattle.protocol.specs.Rely.{Unseen, Rely, rely-same, not-lost, rely-freeze, rely-state}
 use Rattle.protocol.specs.Helper.{Shown, AtPlace, AllFrozen, TriedLost, At, Helps, helps-kept, shown-kept}
 use Rattle.protocol.specs.Linking.{LinkedTurn, links, linked-step}
-use Rattle.protocol.specs.Trees.{Leaves, TreeStep}
+use Rattle.protocol.specs.Trees.{TreeStep}
 
 -- what a turn of worker w gives that leaves X′ and knows Q
 pub record Gives (w : ℕ) (X X′ : View) (G : Ghost) (Q : Ghost → Type 0) : Type 0 where

@@ -30,10 +30,10 @@ pub record Behind (X Y : View) : Type 0 where
   pub fixed : (v : ℕ) → v < X .nodes → Y .fixed v ≡ X .fixed v
   pub kid : (v : ℕ) → v < X .nodes → (s : Bool) → Y .kid s v ≡ X .kid s v
   pub update : (v : ℕ) → v < X .nodes → Y .update v ≡ X .update v
-  pub rest : (Y .state ≡ X .state) × (Y .filling ≡ X .filling) × (Y .counter ≡ X .counter)
+  pub rest : (Y .state ≡ X .state) × (Y .filling ≡ X .filling)
 
 pub behind-none : (X : View) → Behind X X
-behind-none X = record { fixed = λ v _. refl; kid = λ v _ s. refl; update = λ v _. refl; rest = (refl, refl, refl) }
+behind-none X = record { fixed = λ v _. refl; kid = λ v _ s. refl; update = λ v _. refl; rest = (refl, refl) }
 
 pub behind-one : (X Y : View) → Behind X Y → (x : ℕ) (f : Fixed) (a b : ℕ) → X .nodes ≤ x → Behind X (wNode Y x f a b)
 behind-one X Y B x f a b l = record {
@@ -56,7 +56,6 @@ behind-takes X Y k B words = record {
   filling = λ r l. change-other (Y .filling) (X .records) unfilled r (λ e. omega arith) ∙ ap (λ h. h r) (B .rest .1);
   nodes = omega arith;
   records = omega arith;
-  counter = B .rest .2;
   words = words;
   empty = rw (change-same (Y .filling) (X .records) unfilled) refl;
   aborted′ = change-same (Y .state) (X .records) aborted;

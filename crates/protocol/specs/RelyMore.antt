@@ -1,5 +1,5 @@
 -- What every worker may count on when a child is linked, and when nodes and records are taken or a copy is made.
-use Prim.Native.Nat.{ℕ, _≤_, _<_}
+use Prim.Native.Nat.{ℕ, _<_}
 use mathlib.Core.Path.{_≡_, refl, sym, ap, _∙_}
 use mathlib.Core.Logic.{_≢_, inl, inr}
 use mathlib.Core.Bool.{Bool, true, false, true≢false}
@@ -68,7 +68,6 @@ pub record Aside (w : ℕ) (X X′ : View) (G G′ : Ghost) : Type 0 where
   pub fixed : (v : ℕ) → v < X .nodes → X′ .fixed v ≡ X .fixed v
   pub maker : (v : ℕ) → v < X .nodes → G′ .maker v ≡ G .maker v
   pub owner : (r : ℕ) → r < X .records → G′ .owner r ≡ G .owner r
-  pub counter : X .counter ≤ X′ .counter
   pub kids : (v : ℕ) → v < X .nodes → G .linked v ≡ false → G .maker v < X .records → G .owner (G .maker v) ≢ w → (s : Bool) → X′ .kid s v ≡ X .kid s v
 
 pub rely-aside : (w : ℕ) (X X′ : View) (G G′ : Ghost) (P : ℕ → Type 0) (H : Holds X G) (A : Agrees X X′ G G′ P) → Aside w X X′ G G′ → Rely w X X′ G G′

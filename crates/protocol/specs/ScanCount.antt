@@ -15,10 +15,9 @@ use Rattle.tables.specs.Names.{node}
 use Rattle.tables.specs.Nodes.{isInternal, phaseAt}
 use Rattle.tables.specs.NodeWrites.{fixedAt}
 use Rattle.tables.specs.World.{Tables}
-use Rattle.trees.specs.Members.{Distinct, All}
-use Rattle.trees.specs.Count.{count, count-most, count-same, distinct-count}
+use Rattle.trees.specs.Count.{count, count-most, count-same}
 use Rattle.trees.specs.Scanning.{Stand, at, distinct-pending}
-use Rattle.trees.specs.Bound.{early, is-early, visited-most, visiting-most, seeing-most}
+use Rattle.trees.specs.Bound.{early, visited-most, visiting-most, seeing-most}
 use Rattle.views.specs.View.{View, view}
 use Rattle.protocol.specs.Ghost.{Ghost}
 use Rattle.protocol.specs.Invariant.{Holds}

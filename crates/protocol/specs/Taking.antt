@@ -27,7 +27,6 @@ pub record Takes (X X′ : View) : Type 0 where
   pub filling : (r : ℕ) → r < X .records → X′ .filling r ≡ X .filling r
   pub nodes : X .nodes ≤ X′ .nodes
   pub records : X′ .records ≡ suc (X .records)
-  pub counter : X′ .counter ≡ X .counter
   pub words : (v : ℕ) → X .nodes ≤ v → v < X′ .nodes → X′ .update v .info .0 ≡ 0
   pub empty : X′ .filling (X .records) .count ≡ 0
   pub aborted′ : X′ .state (X .records) ≡ aborted
@@ -72,7 +71,6 @@ module _ (w : ℕ) (X X′ : View) (G : Ghost) (H : Holds X G) (T : Takes X X′
       fixed = T .fixed;
       maker = maker-same;
       owner = λ r l. change-other (G .owner) (X .records) w r (λ e. omega arith);
-      counter = let e = T .counter in omega arith;
       kids = λ v l _ _ _. T .kid v l;
     });
     trees = inl (record { fixed = λ n u. T .fixed n (H .used n u); kid = λ s n u. T .kid n (H .used n u) s });
@@ -126,7 +124,6 @@ module _ (w : ℕ) (X : View) (G : Ghost) (H : Holds X G) (r x : ℕ) (t : Taken
       fixed = λ v _. refl;
       maker = λ v _. refl;
       owner = λ q _. refl;
-      counter = omega arith;
       kids = λ v l _ _ o. other-kid v (λ e. o (ap (λ n. G .owner (G .maker n)) e ∙ ap (G .owner) (m .maker) ∙ t .mine));
     });
     trees = inl (record { fixed = λ n u. refl; kid = λ s n u. other-kid n (linked-other n u) s });

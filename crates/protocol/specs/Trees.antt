@@ -19,7 +19,6 @@ use Rattle.trees.specs.ScanFrame.{StandIn, scan-within, scan-frame}
 use Rattle.views.specs.View.{View}
 use Rattle.protocol.specs.Ghost.{Ghost}
 use Rattle.protocol.specs.Invariant.{Holds}
-use Rattle.protocol.specs.Link as linking
 
 -- the nodes as the trees see them
 unfoldable pub leafOf : Fixed → Bool

@@ -1,10 +1,10 @@
 -- What VALIDATELINK knows of the parent's word at each of its steps, and that the others keep it.
-use Prim.Native.Nat.{ℕ, _<_}
+use Prim.Native.Nat.{ℕ}
 use Rattle.shapes.specs.declared.LinkStep.{LinkStep}
 use Rattle.shapes.specs.declared.LinkStep.the-variants.{Word52, State53, Child57}
 use Rattle.shapes.specs.declared.Update.{Update}
 use Rattle.views.specs.View.{View}
-use Rattle.protocol.specs.Ghost.{Ghost, Seen, Final}
+use Rattle.protocol.specs.Ghost.{Ghost, Seen}
 use Rattle.protocol.specs.Rely.{Rely}
 use Rattle.protocol.specs.Knowledge.{Settled, settled-kept}
 

@@ -1,15 +1,13 @@
 -- Test and meaning of 'sound' agree, clause by clause.
-use Prim.Native.Nat.{ℕ, zero, suc, _+_, _*_, _-_, _≤_, _<_}
-use mathlib.Core.Path.{_≡_, refl, sym, ap, _∙_, subst}
+use Prim.Native.Nat.{ℕ, zero, suc, _*_, _-_, _≤_, _<_}
+use mathlib.Core.Path.{_≡_, refl, sym, ap, subst}
 use mathlib.Core.Logic.{_⊎_, inl, inr}
-use mathlib.Core.List.{List, [], _∷_}
-use mathlib.Core.Bool.{Bool, true, false, false≢true, _&&_}
+use mathlib.Core.List.{List}
+use mathlib.Core.Bool.{Bool, true, false, false≢true}
 use native.Mathlib.Omega.{arith}
 use lib.ListN.{length, getD}
-use lib.Dec.{eqb, leb, ltb}
 use Rattle.laws.specs.Choice.{pick}
-use Rattle.laws.specs.Tests.{Says, says-lt, says-le, says-eq, says-and, says-or, says-pick, says-as, says-yes, says-itself, all, every, says-none, says-more, says-every}
-use Rattle.shapes.specs.Numbers.{leastN, mostN, leastM, mostM, leastP, mostP, lastPhase}
+use Rattle.laws.specs.Tests.{Says, says-lt, says-le, says-eq, says-and, says-or, says-pick, says-as, says-yes, says-itself, every, says-none, says-more, says-every}
 use Rattle.shapes.specs.declared.NodeNo.{NodeNo}
 use Rattle.shapes.specs.declared.RecordNo.{RecordNo}
 use Rattle.shapes.specs.declared.Rank.{Rank}
@@ -18,28 +16,25 @@ use Rattle.shapes.specs.declared.Entry.{Entry}
 use Rattle.shapes.specs.declared.Filling.{Filling}
 use Rattle.shapes.specs.declared.Totals.{Totals}
 use Rattle.shapes.specs.declared.Locals.{Locals}
-use Rattle.shapes.specs.declared.Worker.{Worker}
 use Rattle.shapes.specs.declared.MaybeNode.{MaybeNode}
 use Rattle.shapes.specs.declared.MaybeNode.the-variants.{Absent, At}
 use Rattle.shapes.specs.declared.Kind.the-variants as kind
-use Rattle.shapes.specs.declared.HelpStep.{HelpStep}
 use Rattle.shapes.specs.declared.Place.{Place}
 use Rattle.shapes.specs.declared.Place.the-variants as place
-use Rattle.shapes.specs.declared.Operation.{Operation}
 use Rattle.shapes.specs.declared.Operation.the-variants.{Insert, Delete, Find, Scan}
 use Rattle.shapes.specs.declared.Condition.{Condition}
 use Rattle.shapes.specs.declared.Condition.the-variants.{Idle, Busy}
 use Rattle.tables.specs.Names.{node, recordNo, root, dummy}
 use Rattle.tables.specs.Rows.{HasRows}
-use Rattle.tables.specs.Nodes.{nodeWidth, kindAt, isInternal, rankAt, phaseAt, prevAt, childAt, updateAt}
-use Rattle.tables.specs.NodeWrites.{Fixed, fixedAt}
+use Rattle.tables.specs.Nodes.{nodeWidth, isInternal, childAt, updateAt}
+use Rattle.tables.specs.NodeWrites.{fixedAt}
 use Rattle.tables.specs.Records.{recordWidth, recordWord, recordRow, entryRow, aborted, unfilled, countAt, stateAt, parAt, oldChildAt, newChildAt, seqAt, entryAt}
 use Rattle.tables.specs.RecordWrites.{fillingAt}
 use Rattle.tables.specs.World.{Tables, World, totalsOf, tablesOf, workerAt, pendingAt}
 use Rattle.tables.specs.Fresh.{between, sizesOk, lentOk}
-use Rattle.sound.specs.Homes.{listed, attemptHome, scanHome, inList}
+use Rattle.sound.specs.Homes.{inList}
 use Rattle.sound.specs.Sound.{usedNode, usedMaybe, usedRecord, wordOk, phaseOk, usedOk, isAbsent, rootOk, dummyOk, rankOk, prevOk, childrenOk, nodeOk, entryOk, countOk, recordOk, handOk, withinOk, conditionOk, listsOk, workerOk, soundOf}
-use Rattle.sound.specs.Meaning.{WordSound, MaybeSound, SizesSound, UsedSound, RankSound, PrevSound, NodeSound, RootSound, EntrySound, entryOf, CountSound, RecordSound, HandSound, Within, PlaceSound, ConditionSound, WorkerSound, TablesSound, Sound}
+use Rattle.sound.specs.Meaning.{WordSound, MaybeSound, SizesSound, UsedSound, RankSound, PrevSound, NodeSound, RootSound, EntrySound, entryOf, CountSound, RecordSound, HandSound, Within, ConditionSound, WorkerSound, Sound}
 
 -- ---- numbers
 

@@ -1,13 +1,12 @@
 -- What each clause of 'sound' means, as a proposition over the values that it speaks of.
-use Prim.Native.Nat.{ℕ, zero, suc, _+_, _*_, _≤_, _<_}
+use Prim.Native.Nat.{ℕ, zero, suc, _*_, _≤_, _<_}
 use mathlib.Core.Path.{_≡_}
 use mathlib.Core.Logic.{_⊎_}
 use mathlib.Core.List.{List}
-use mathlib.Core.Bool.{Bool, true, false}
+use mathlib.Core.Bool.{true, false}
 use lib.ListN.{length}
 use Rattle.shapes.specs.Numbers.{leastN, mostN, leastM, mostM, leastP, mostP, lastPhase}
 use Rattle.shapes.specs.declared.NodeNo.{NodeNo}
-use Rattle.shapes.specs.declared.RecordNo.{RecordNo}
 use Rattle.shapes.specs.declared.Rank.{Rank}
 use Rattle.shapes.specs.declared.Update.{Update}
 use Rattle.shapes.specs.declared.Entry.{Entry}
@@ -17,9 +16,7 @@ use Rattle.shapes.specs.declared.Locals.{Locals}
 use Rattle.shapes.specs.declared.Worker.{Worker}
 use Rattle.shapes.specs.declared.MaybeNode.{MaybeNode}
 use Rattle.shapes.specs.declared.MaybeNode.the-variants.{Absent, At}
-use Rattle.shapes.specs.declared.Kind.{Kind}
 use Rattle.shapes.specs.declared.Kind.the-variants as kind
-use Rattle.shapes.specs.declared.HelpStep.{HelpStep}
 use Rattle.shapes.specs.declared.Place.{Place}
 use Rattle.shapes.specs.declared.Place.the-variants as place
 use Rattle.shapes.specs.declared.Operation.{Operation}

@@ -14,13 +14,11 @@ use Rattle.shapes.specs.declared.Update.{Update}
 use Rattle.shapes.specs.declared.Entry.{Entry}
 use Rattle.shapes.specs.declared.Totals.{Totals}
 use Rattle.shapes.specs.declared.Locals.{Locals}
-use Rattle.shapes.specs.declared.Worker.{Worker}
 use Rattle.shapes.specs.declared.MaybeNode.{MaybeNode}
 use Rattle.shapes.specs.declared.MaybeNode.the-variants.{Absent, At}
 use Rattle.shapes.specs.declared.Kind.the-variants as kind
 use Rattle.shapes.specs.declared.Place.{Place}
 use Rattle.shapes.specs.declared.Place.the-variants as place
-use Rattle.shapes.specs.declared.Operation.{Operation}
 use Rattle.shapes.specs.declared.Operation.the-variants.{Insert, Delete, Find, Scan}
 use Rattle.shapes.specs.declared.Condition.{Condition}
 use Rattle.shapes.specs.declared.Condition.the-variants.{Idle, Busy}

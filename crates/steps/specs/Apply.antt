@@ -1,7 +1,6 @@
 -- What an effect does to the tables: at most one changeable word, or a creation.
 use Prim.Native.Nat.{ℕ, _+_}
 use mathlib.Core.List.{List}
-use mathlib.Core.Bool.{Bool, true, false}
 use lib.Dec.{ltb}
 use Rattle.laws.specs.Choice.{pick}
 use Rattle.shapes.specs.declared.NodeNo.{NodeNo}

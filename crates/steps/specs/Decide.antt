@@ -1,6 +1,5 @@
 -- What a turn decides, by its place.
-use Prim.Native.Nat.{ℕ}
-use mathlib.Core.Bool.{Bool, true, false}
+use mathlib.Core.Bool.{true, false}
 use Rattle.shapes.specs.declared.Key.{Key}
 use Rattle.shapes.specs.declared.Locals.{Locals}
 use Rattle.shapes.specs.declared.Kind.{Kind}
@@ -18,7 +17,7 @@ use Rattle.steps.specs.Search.{search39}
 use Rattle.steps.specs.Attempt.{linkStep, word66, grand66, sibling182, copyWord, word189, leafWord}
 use Rattle.steps.specs.Execute.{frozen97, state98, freeze103}
 use Rattle.steps.specs.Help.{helpOf, helpNext}
-use Rattle.steps.specs.Scan.{Lists, Range, bump131, word139, state140, child141, left144}
+use Rattle.steps.specs.Scan.{Lists, bump131, word139, state140, child141, left144}
 
 -- an insert, a delete or a find; sound tables have none at a scan's place
 unfoldable pub attempt : Tables → Kind → Key → Locals → Place → Decision

@@ -1,8 +1,8 @@
 -- 01, 'Evenings worked through': P1 to P10, by computation from the definitions.
 use Prim.Native.Nat.{ℕ}
 use mathlib.Core.Path.{_≡_, refl}
-use mathlib.Core.List.{List, [], _∷_}
-use lib.IntN.{ℤ, pos}
+use mathlib.Core.List.{[], _∷_}
+use lib.IntN.{pos}
 use Rattle.shapes.specs.declared.Outcome.the-variants.{Said}
 use Rattle.shapes.specs.declared.Answer.the-variants.{Yes, No, Keys, NoRoom}
 use Rattle.tables.specs.World.{World}

@@ -16,11 +16,10 @@ use Rattle.shapes.specs.declared.Effect.the-variants as effect
 use Rattle.shapes.specs.declared.PendingChange.the-variants as pending
 use Rattle.shapes.specs.declared.FoundChange.the-variants as found
 use Rattle.shapes.specs.declared.Answer.{Answer}
-use Rattle.shapes.specs.declared.Next.{Next}
 use Rattle.shapes.specs.declared.Next.the-variants as next
 use Rattle.shapes.specs.declared.Decision.{Decision}
 use Rattle.shapes.specs.declared.Decision.the-variants as decision
-use Rattle.tables.specs.Names.{node, phase, root, dummy, freshWord}
+use Rattle.tables.specs.Names.{phase, root, dummy, freshWord}
 use Rattle.tables.specs.World.{blank}
 
 -- ---- the hand

@@ -10,8 +10,7 @@ use Rattle.shapes.specs.declared.Phase.{Phase}
 use Rattle.shapes.specs.declared.Key.{Key}
 use Rattle.shapes.specs.declared.Totals.{Totals}
 use Rattle.shapes.specs.declared.Locals.{Locals}
-use Rattle.shapes.specs.declared.MaybeNode.{MaybeNode}
-use Rattle.shapes.specs.declared.MaybeNode.the-variants.{Absent, At}
+use Rattle.shapes.specs.declared.MaybeNode.the-variants.{At}
 use Rattle.shapes.specs.declared.HelpStep.the-variants.{Counter111}
 use Rattle.shapes.specs.declared.Back.the-variants.{Node}
 use Rattle.shapes.specs.declared.Place.the-variants as place
@@ -21,7 +20,6 @@ use Rattle.shapes.specs.declared.PendingChange.the-variants as pending
 use Rattle.shapes.specs.declared.FoundChange.{FoundChange}
 use Rattle.shapes.specs.declared.FoundChange.the-variants as found
 use Rattle.shapes.specs.declared.Answer.the-variants.{Keys, NoPhase}
-use Rattle.shapes.specs.declared.Next.{Next}
 use Rattle.shapes.specs.declared.Next.the-variants as next
 use Rattle.shapes.specs.declared.Decision.{Decision}
 use Rattle.shapes.specs.declared.Decision.the-variants as decision

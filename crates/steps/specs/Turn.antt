@@ -1,14 +1,11 @@
 -- The calls: a turn, the four starts, and a run of up to n turns, with their refusals in 01's order.
 use Prim.Native.Nat.{ℕ, zero, suc, _+_, _-_}
 use mathlib.Core.List.{List}
-use mathlib.Core.Bool.{Bool, true, false}
 use lib.ListN.{set}
 use lib.IntN.{ℤ}
 use lib.Dec.{ltb}
 use Rattle.laws.specs.Choice.{pick}
-use Rattle.shapes.specs.declared.NodeNo.{NodeNo}
 use Rattle.shapes.specs.declared.Key.{Key}
-use Rattle.shapes.specs.declared.Locals.{Locals}
 use Rattle.shapes.specs.declared.Worker.{Worker}
 use Rattle.shapes.specs.declared.Place.{Place}
 use Rattle.shapes.specs.declared.Place.the-variants as place
@@ -29,7 +26,7 @@ use Rattle.shapes.specs.declared.Outcome.{Outcome}
 use Rattle.shapes.specs.declared.Outcome.the-variants.{Going, Said, Refused}
 use Rattle.shapes.specs.declared.Refusal.the-variants as refusal
 use Rattle.tables.specs.Names.{numberOf}
-use Rattle.tables.specs.World.{Tables, World, totalsOf, tablesOf, blank, workerAt, spot, pendingAt}
+use Rattle.tables.specs.World.{World, totalsOf, tablesOf, blank, workerAt, spot, pendingAt}
 use Rattle.tables.specs.Fresh.{Left, refused}
 use Rattle.sound.specs.Sound.{soundOf}
 use Rattle.steps.specs.Scan.{Lists}

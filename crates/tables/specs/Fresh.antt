@@ -8,7 +8,6 @@ use lib.Dec.{leb}
 use Rattle.laws.specs.Choice.{pick}
 use Rattle.laws.specs.Tests.{all}
 use Rattle.shapes.specs.Numbers.{leastN, mostN, leastM, mostM, leastP, mostP}
-use Rattle.shapes.specs.declared.Totals.{Totals}
 use Rattle.shapes.specs.declared.Board.{Board}
 use Rattle.shapes.specs.declared.Reply.{Reply}
 use Rattle.shapes.specs.declared.Outcome.{Outcome}

@@ -1,7 +1,7 @@
 -- Short names for numbered things.
 use Prim.Native.Nat.{ℕ, _+_, _-_, _*_}
 use mathlib.Core.Bool.{Bool, _&&_}
-use lib.Dec.{eqb, ltb}
+use lib.Dec.{eqb}
 use lib.IntN.{ℤ, pos, negsuc, _-ℤ_}
 use Rattle.shapes.specs.declared.NodeNo.{NodeNo}
 use Rattle.shapes.specs.declared.RecordNo.{RecordNo}

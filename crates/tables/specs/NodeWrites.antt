@@ -1,15 +1,14 @@
 -- What each way of writing a node does to each field of each node: same place, other place.
 use mathlib.Core.Path.{_≡_, refl, sym, ap, ap₂, _∙_, subst}
 use mathlib.Core.Logic.{_≢_}
-use mathlib.Core.List.{List, [], _∷_}
+use mathlib.Core.List.{List}
 use mathlib.Core.Bool.{Bool, true, false}
-use Prim.Native.Nat.{ℕ, zero, suc, _+_, _*_, _≤_, _<_}
+use Prim.Native.Nat.{ℕ, _≤_, _<_}
 use native.Mathlib.Omega.{arith}
 use native.Mathlib.Decide.{ℕ-discrete}
 use lib.ListN.{length, getD}
 use Rattle.laws.specs.Choice.{pick}
 use Rattle.shapes.specs.declared.NodeNo.{NodeNo}
-use Rattle.shapes.specs.declared.RecordNo.{RecordNo}
 use Rattle.shapes.specs.declared.Rank.{Rank}
 use Rattle.shapes.specs.declared.Update.{Update}
 use Rattle.shapes.specs.declared.Phase.{Phase}
@@ -17,7 +16,7 @@ use Rattle.shapes.specs.declared.MaybeNode.{MaybeNode}
 use Rattle.shapes.specs.declared.MaybeNode.the-variants.{Absent, At}
 use Rattle.tables.specs.Names.{node, recordNo, update, freshWord}
 use Rattle.tables.specs.Rows.{word, HasRows, rows-put, word-put-same, word-put-row, word-put-field, rows-putRow, word-putRow-same, word-putRow-other}
-use Rattle.tables.specs.Nodes.{nodeWidth, nodeWord, kindAt, isInternal, rankAt, phaseAt, prevAt, side, childAt, updateAt, setChild, setUpdate, newRow, newNode}
+use Rattle.tables.specs.Nodes.{nodeWidth, nodeWord, kindAt, rankAt, phaseAt, prevAt, side, childAt, updateAt, setChild, setUpdate, newRow, newNode}
 
 -- the fields of a node that never change once it is made
 pub record Fixed : Type 0 where

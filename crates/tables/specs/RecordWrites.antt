@@ -1,17 +1,14 @@
 -- What each way of writing a record does to each field of each record: same place, other place.
-use mathlib.Core.Path.{_≡_, refl, sym, ap, _∙_}
+use mathlib.Core.Path.{_≡_, refl, _∙_}
 use mathlib.Core.Logic.{_≢_}
-use mathlib.Core.List.{List, [], _∷_, _++_}
-use Prim.Native.Nat.{ℕ, zero, suc, _+_, _*_, _≤_, _<_}
+use mathlib.Core.List.{List}
+use Prim.Native.Nat.{ℕ, _≤_, _<_}
 use native.Mathlib.Omega.{arith}
 use lib.ListN.{length, getD}
-use Rattle.shapes.specs.declared.NodeNo.{NodeNo}
 use Rattle.shapes.specs.declared.RecordNo.{RecordNo}
-use Rattle.shapes.specs.declared.Phase.{Phase}
-use Rattle.shapes.specs.declared.Entry.{Entry}
 use Rattle.shapes.specs.declared.Filling.{Filling}
-use Rattle.tables.specs.Names.{node, recordNo, phase, update}
-use Rattle.tables.specs.Rows.{word, HasRows, rows-put, word-put-same, word-put-row, word-put-field, rows-putRow, word-putRow-same, word-putRow-other}
+use Rattle.tables.specs.Names.{phase}
+use Rattle.tables.specs.Rows.{HasRows, rows-put, word-put-same, word-put-row, word-put-field, rows-putRow, word-putRow-same, word-putRow-other}
 use Rattle.tables.specs.Records.{recordWidth, recordWord, countAt, stateAt, parAt, oldChildAt, newChildAt, seqAt, entryAt, setState, entryRow, recordRow, newRecord}
 
 -- all of a record but its state

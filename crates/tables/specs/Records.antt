@@ -5,12 +5,11 @@ use mathlib.Core.Bool.{Bool, _&&_, not}
 use lib.Dec.{eqb, ltb}
 use Rattle.shapes.specs.declared.NodeNo.{NodeNo}
 use Rattle.shapes.specs.declared.RecordNo.{RecordNo}
-use Rattle.shapes.specs.declared.Phase.{Phase}
 use Rattle.shapes.specs.declared.Update.{Update}
 use Rattle.shapes.specs.declared.Entry.{Entry}
 use Rattle.shapes.specs.declared.Filling.{Filling}
 use Rattle.tables.specs.Rows.{word, putWord, putRow}
-use Rattle.tables.specs.Names.{node, recordNo, phase, update, root, dummy, freshWord}
+use Rattle.tables.specs.Names.{node, recordNo, phase, update, root, freshWord}
 
 -- how many nodes are listed (0: unfilled), state, par, oldChild, newChild, seq; then four times a node, its old word's type
 -- and record, and whether it is to be marked

@@ -1,6 +1,6 @@
 -- A table in one flat list of words: field f of row n stands at n × width + f. Reading past the end gives 0, writing there
 -- changes nothing. The laws are over width, row and field, so that nobody above counts places in a list.
-use mathlib.Core.Path.{_≡_, refl, sym, ap, _∙_}
+use mathlib.Core.Path.{_≡_, refl, _∙_}
 use mathlib.Core.Logic.{_≢_}
 use mathlib.Core.List.{List, [], _∷_}
 use Prim.Native.Nat.{ℕ, zero, suc, _+_, _*_, _≤_, _<_}

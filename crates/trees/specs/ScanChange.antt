@@ -2,7 +2,7 @@
 use mathlib.Core.Path.{refl}
 use mathlib.Core.Logic.{_⊎_, inl, inr}
 use mathlib.Core.List.{List}
-use mathlib.Core.Bool.{Bool, true}
+use mathlib.Core.Bool.{Bool}
 use Prim.Native.Nat.{ℕ}
 use Rattle.trees.specs.Members.{All}
 use Rattle.trees.specs.Shape.{Shape, both, node, In, Once, Free}

@@ -8,7 +8,7 @@ use native.Mathlib.Decide.{decLe}
 use Rattle.shapes.specs.declared.NodeNo.{NodeNo}
 use Rattle.shapes.specs.declared.MaybeNode.{MaybeNode}
 use Rattle.shapes.specs.declared.MaybeNode.the-variants.{At}
-use Rattle.laws.specs.Changed.{changeOn, changeOn-is}
+use Rattle.laws.specs.Changed.{changeOn}
 use Rattle.trees.specs.Shape.{Shape, tip, node, In, Once}
 
 -- the nodes as the trees see them; kid true is the left child, kid false the right

@@ -1,32 +1,27 @@
 -- What each effect does, as the view sees it.
-use Prim.Native.Nat.{ℕ, _+_, _≤_, _<_}
+use Prim.Native.Nat.{ℕ, _+_, _<_}
 use mathlib.Core.Path.{_≡_, refl, sym, ap, _∙_, fun-ext}
 use mathlib.Core.Logic.{_≢_}
 use mathlib.Core.List.{List}
 use mathlib.Core.Bool.{Bool, true, false, false≢true}
-use native.Mathlib.Omega.{arith}
-use lib.Dec.{ltb}
-use Rattle.laws.specs.Choice.{pick, fork}
-use Rattle.laws.specs.Changed.{change, change-is, changeOn, changeOn-is, changeOn-same, changeOn-other, by-equal}
+use Rattle.laws.specs.Changed.{change-is, changeOn, changeOn-is, changeOn-same, changeOn-other, by-equal}
 use Rattle.shapes.specs.declared.NodeNo.{NodeNo}
 use Rattle.shapes.specs.declared.RecordNo.{RecordNo}
 use Rattle.shapes.specs.declared.Phase.{Phase}
-use Rattle.shapes.specs.declared.Key.{Key}
 use Rattle.shapes.specs.declared.Rank.{Rank}
 use Rattle.shapes.specs.declared.Update.{Update}
 use Rattle.shapes.specs.declared.Filling.{Filling}
 use Rattle.shapes.specs.declared.Totals.{Totals}
 use Rattle.shapes.specs.declared.MaybeNode.{MaybeNode}
-use Rattle.shapes.specs.declared.MaybeNode.the-variants.{Absent, At}
-use Rattle.tables.specs.Names.{node, recordNo, root, finite, value, freshWord}
+use Rattle.tables.specs.Names.{node, recordNo, freshWord}
 use Rattle.tables.specs.Rows.{HasRows}
-use Rattle.tables.specs.Nodes.{nodeWidth, kindAt, rankAt, childAt, updateAt, setChild, setUpdate, newNode}
-use Rattle.tables.specs.NodeWrites.{Fixed, fixedAt, rows-newNode, fixed-setChild, update-setChild, child-setChild-same, child-setChild-node, child-setChild-side, child-setChild-side′, fixed-setUpdate, child-setUpdate, update-setUpdate-same, update-setUpdate-node, fixed-newNode-node, child-newNode-node, update-newNode-node, fixed-newNode-same, child-newNode-left, child-newNode-right, update-newNode-same}
-use Rattle.tables.specs.Records.{recordWidth, undecided, aborted, unfilled, stateAt, setState, newRecord}
-use Rattle.tables.specs.RecordWrites.{fillingAt, filling-setState, state-setState-same, state-setState-record, filling-newRecord-record, state-newRecord-record, filling-newRecord-same, state-newRecord-same}
-use Rattle.tables.specs.World.{Tables, tables}
-use Rattle.steps.specs.Apply.{bumped, taken, topOf, threeNodes, copyOf, takenRecord}
-use Rattle.views.specs.View.{View, view, wUpdate, wKid, wState, wRecord, wCounter, wNode, wUsed}
+use Rattle.tables.specs.Nodes.{nodeWidth, childAt, setChild, setUpdate, newNode}
+use Rattle.tables.specs.NodeWrites.{fixed-setChild, update-setChild, child-setChild-same, child-setChild-node, child-setChild-side, child-setChild-side′, fixed-setUpdate, child-setUpdate, update-setUpdate-same, update-setUpdate-node, fixed-newNode-node, child-newNode-node, update-newNode-node, fixed-newNode-same, child-newNode-left, child-newNode-right, update-newNode-same}
+use Rattle.tables.specs.Records.{recordWidth, setState, newRecord}
+use Rattle.tables.specs.RecordWrites.{filling-setState, state-setState-same, state-setState-record, filling-newRecord-record, state-newRecord-record, filling-newRecord-same, state-newRecord-same}
+use Rattle.tables.specs.World.{tables}
+use Rattle.steps.specs.Apply.{taken}
+use Rattle.views.specs.View.{View, view, wUpdate, wKid, wState, wRecord, wNode, wUsed}
 
 -- two views are equal where their parts are
 view-is : (X Y : View) → X .update ≡ Y .update → X .fixed ≡ Y .fixed → X .kid ≡ Y .kid → X .state ≡ Y .state → X .filling ≡ Y .filling → X .nodes ≡ Y .nodes → X .records ≡ Y .records → X .counter ≡ Y .counter → X ≡ Y

@@ -1,16 +1,13 @@
 -- The tables as functions of numbers: what the theory of many turns sees of them.
 use Prim.Native.Nat.{ℕ}
-use mathlib.Core.Path.{_≡_, refl, fun-ext}
 use mathlib.Core.Bool.{Bool, true, false}
 use Rattle.laws.specs.Changed.{change, changeOn}
-use Rattle.shapes.specs.declared.NodeNo.{NodeNo}
-use Rattle.shapes.specs.declared.RecordNo.{RecordNo}
 use Rattle.shapes.specs.declared.Update.{Update}
 use Rattle.shapes.specs.declared.Filling.{Filling}
 use Rattle.tables.specs.Names.{node, recordNo, freshWord}
 use Rattle.tables.specs.Nodes.{childAt, updateAt}
 use Rattle.tables.specs.NodeWrites.{Fixed, fixedAt}
-use Rattle.tables.specs.Records.{stateAt, aborted, unfilled}
+use Rattle.tables.specs.Records.{stateAt}
 use Rattle.tables.specs.RecordWrites.{fillingAt}
 use Rattle.tables.specs.World.{Tables}
 
