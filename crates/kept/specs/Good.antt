@@ -19,7 +19,6 @@ use Rattle.shapes.specs.declared.Place.the-variants as place
 use Rattle.shapes.specs.declared.HelpStep.the-variants.{Counter111}
 use Rattle.shapes.specs.declared.Back.the-variants.{Again}
 use Rattle.shapes.specs.declared.Effect.{Effect}
-use Rattle.shapes.specs.declared.Effect.the-variants as effect
 use Rattle.shapes.specs.declared.PendingChange.{PendingChange}
 use Rattle.shapes.specs.declared.PendingChange.the-variants as pending
 use Rattle.shapes.specs.declared.FoundChange.{FoundChange}

@@ -8,9 +8,7 @@ use native.Mathlib.Omega.{arith}
 use lib.Dec.{leb}
 use lib.ListN.{length}
 use Rattle.shapes.specs.declared.Locals.{Locals}
-use Rattle.shapes.specs.declared.Back.the-variants.{Own, Again, Node}
 use Rattle.shapes.specs.declared.Place.{Place}
-use Rattle.shapes.specs.declared.Place.the-variants as place
 use Rattle.tables.specs.Names.{node}
 use Rattle.tables.specs.Nodes.{isInternal, phaseAt}
 use Rattle.tables.specs.NodeWrites.{fixedAt}
@@ -22,7 +20,7 @@ use Rattle.views.specs.View.{View, view}
 use Rattle.protocol.specs.Ghost.{Ghost}
 use Rattle.protocol.specs.Invariant.{Holds}
 use Rattle.protocol.specs.Trees.{leafOf, store}
-use Rattle.protocol.specs.ScanPlaces.{helpLeft, OnWalk, AtNode, ScanKnows}
+use Rattle.protocol.specs.ScanPlaces.{helpLeft, OnWalk, AtNode, ScanKnows, by-place}
 
 unfoldable pub innerNodes : View → ℕ → ℕ
 innerNodes X i = count (X .nodes) (early (store X) i)
@@ -65,26 +63,11 @@ module _ (X : View) (G : Ghost) (H : Holds X G) where
   node-short low k = omega (arith, k .on .turns, node-most X G H k)
 
   pub scan-short : (v : Locals) (us : List ℕ) (found T : ℕ) (q : Place) → ScanKnows X G v us found T q → T < 2 + 16 * innerNodes X (v .seq .0)
-  scan-short v us found T place.Counter74 k = absurd k
-  scan-short v us found T place.Search39 k = absurd k
-  scan-short v us found T (place.Link a b) k = absurd k
-  scan-short v us found T place.Word66 k = absurd k
-  scan-short v us found T place.Grand66 k = absurd k
-  scan-short v us found T place.Leaf164 k = absurd k
-  scan-short v us found T place.Sibling182 k = absurd k
-  scan-short v us found T place.CopyLeft k = absurd k
-  scan-short v us found T place.CopyRight k = absurd k
-  scan-short v us found T place.Word189 k = absurd k
-  scan-short v us found T place.Leaf190 k = absurd k
-  scan-short v us found T place.Frozen97 k = absurd k
-  scan-short v us found T place.State98 k = absurd k
-  scan-short v us found T place.Freeze103 k = absurd k
-  scan-short v us found T (place.Help b Own) k = absurd k
-  scan-short v us found T (place.Help b Again) k = absurd k
-  scan-short v us found T (place.Help b Node) k = let l : T + helpLeft b (v .i) < 2 + 16 * innerNodes X (v .seq .0) = node-short (omega arith) (k .0) in omega arith
-  scan-short v us found T place.Counter130 k = omega (arith, k .taken)
-  scan-short v us found T place.Bump131 k = omega (arith, k .taken)
-  scan-short v us found T place.Word139 k = node-short (omega arith) k
-  scan-short v us found T place.State140 k = node-short (omega arith) (k .0)
-  scan-short v us found T place.Child141 k = node-short (omega arith) k
-  scan-short v us found T place.Left144 k = omega (arith, k .0 .turns, k .1, visits-most X G H (k .0))
+  scan-short v us found T = by-place X G v us found T (λ _. T < 2 + 16 * innerNodes X (v .seq .0))
+      (λ b k. let l : T + helpLeft b (v .i) < 2 + 16 * innerNodes X (v .seq .0) = node-short (omega arith) (k .0) in omega arith)
+      (λ k. omega (arith, k .taken))
+      (λ k. omega (arith, k .taken))
+      (node-short (omega arith))
+      (λ k. node-short (omega arith) (k .0))
+      (node-short (omega arith))
+      (λ k. omega (arith, k .0 .turns, k .1, visits-most X G H (k .0)))

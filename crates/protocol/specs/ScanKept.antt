@@ -4,9 +4,7 @@ use mathlib.Core.Path.{ap, _∙_}
 use mathlib.Core.List.{List}
 use Rattle.tables.specs.Names.{update}
 use Rattle.shapes.specs.declared.Locals.{Locals}
-use Rattle.shapes.specs.declared.Back.the-variants.{Own, Again, Node}
 use Rattle.shapes.specs.declared.Place.{Place}
-use Rattle.shapes.specs.declared.Place.the-variants as place
 use Rattle.trees.specs.Scanning.{Stand}
 use Rattle.views.specs.View.{View}
 use Rattle.protocol.specs.Ghost.{Ghost}
@@ -15,7 +13,7 @@ use Rattle.protocol.specs.Rely.{Rely}
 use Rattle.protocol.specs.Helper.{helps-kept}
 use Rattle.protocol.specs.Trees.{leafOf, TreeStep}
 use Rattle.protocol.specs.Walks.{walks-kept}
-use Rattle.protocol.specs.ScanPlaces.{OnWalk, AtNode, ScanKnows}
+use Rattle.protocol.specs.ScanPlaces.{OnWalk, AtNode, ScanKnows, by-place}
 
 -- o may be any worker: nothing here is the scan's own
 module _ (o : ℕ) (X X′ : View) (G G′ : Ghost) (H : Holds X G) (L : Rely o X X′ G G′) (t : TreeStep X X′ G G′) where
@@ -27,26 +25,11 @@ module _ (o : ℕ) (X X′ : View) (G G′ : Ghost) (H : Holds X G) (L : Rely o 
     at-kept {p} k = record { on = on-kept (k .on); inner = ap leafOf (L .fixed p (H .used p (k .on .walks .here))) ∙ k .inner }
 
   pub scan-kept : (v : Locals) (us : List ℕ) (found T : ℕ) (q : Place) → ScanKnows X G v us found T q → ScanKnows X′ G′ v us found T q
-  scan-kept v us found T place.Counter74 k = k
-  scan-kept v us found T place.Search39 k = k
-  scan-kept v us found T (place.Link a b) k = k
-  scan-kept v us found T place.Word66 k = k
-  scan-kept v us found T place.Grand66 k = k
-  scan-kept v us found T place.Leaf164 k = k
-  scan-kept v us found T place.Sibling182 k = k
-  scan-kept v us found T place.CopyLeft k = k
-  scan-kept v us found T place.CopyRight k = k
-  scan-kept v us found T place.Word189 k = k
-  scan-kept v us found T place.Leaf190 k = k
-  scan-kept v us found T place.Frozen97 k = k
-  scan-kept v us found T place.State98 k = k
-  scan-kept v us found T place.Freeze103 k = k
-  scan-kept v us found T (place.Help b Own) k = k
-  scan-kept v us found T (place.Help b Again) k = k
-  scan-kept v us found T (place.Help b Node) k = (at-kept (k .0), helps-kept o X X′ G G′ L (v .info .0) (v .i) b (k .1))
-  scan-kept v us found T place.Counter130 k = k
-  scan-kept v us found T place.Bump131 k = k
-  scan-kept v us found T place.Word139 k = at-kept k
-  scan-kept v us found T place.State140 k = (at-kept (k .0), (k .1 .0, L .seen (v .p .0) (update (k .1 .0) (v .info)) (k .1 .1)))
-  scan-kept v us found T place.Child141 k = at-kept k
-  scan-kept v us found T place.Left144 k = (on-kept (k .0), k .1)
+  scan-kept v us found T = by-place X G v us found T (ScanKnows X′ G′ v us found T)
+      (λ b k. (at-kept (k .0), helps-kept o X X′ G G′ L (v .info .0) (v .i) b (k .1)))
+      (λ k. k)
+      (λ k. k)
+      at-kept
+      (λ k. (at-kept (k .0), (k .1 .0, L .seen (v .p .0) (update (k .1 .0) (v .info)) (k .1 .1))))
+      at-kept
+      (λ k. (on-kept (k .0), k .1))

@@ -11,9 +11,7 @@ use borrow.Author.Tests.{ltb-false}
 use Rattle.laws.specs.Choice.{fork}
 use Rattle.shapes.specs.declared.Key.{Key}
 use Rattle.shapes.specs.declared.Locals.{Locals}
-use Rattle.shapes.specs.declared.Back.the-variants.{Own, Again, Node}
 use Rattle.shapes.specs.declared.Place.{Place}
-use Rattle.shapes.specs.declared.Place.the-variants as place
 use Rattle.shapes.specs.declared.PendingChange.the-variants as pending
 use Rattle.shapes.specs.declared.Decision.{Decision}
 use Rattle.tables.specs.Names.{node}
@@ -31,7 +29,7 @@ use Rattle.protocol.specs.Invariant.{Holds}
 use Rattle.protocol.specs.Trees.{Linked, Version}
 use Rattle.protocol.specs.Walks.{pushes, visits, pops}
 use Rattle.protocol.specs.Waiting.{Tied, tied-length}
-use Rattle.protocol.specs.ScanPlaces.{OnWalk, AtNode, ScanKnows}
+use Rattle.protocol.specs.ScanPlaces.{OnWalk, AtNode, ScanKnows, by-place}
 use Rattle.protocol.specs.ScanCount.{pending-room}
 use Rattle.protocol.specs.ScanChild.{Decided, on-through, looks, as-parent, read}
 use Rattle.protocol.specs.ScanTurns.{bump-moves, word-moves, state-moves, help-turns}
@@ -82,26 +80,11 @@ module _ (w : ℕ) (s : Tables) (h : TablesSound s) (G : Ghost) (H : Holds (view
   -- every place; that the phase has a version and the Root is linked is known of every history
   pub scan-moves : (root : Linked G 0) (version : Version (view s) (v .seq .0)) (us : List ℕ) → Tied ls us → (q : Place) → ScanKnows (view s) G v us (ls .found) T q → Decided w s G (v .seq .0) us (ls .found) T (scan s ls a b v q)
   unfolding scan apply foundLeft
-  scan-moves root version us t place.Counter74 k = absurd k
-  scan-moves root version us t place.Search39 k = absurd k
-  scan-moves root version us t (place.Link c d) k = absurd k
-  scan-moves root version us t place.Word66 k = absurd k
-  scan-moves root version us t place.Grand66 k = absurd k
-  scan-moves root version us t place.Leaf164 k = absurd k
-  scan-moves root version us t place.Sibling182 k = absurd k
-  scan-moves root version us t place.CopyLeft k = absurd k
-  scan-moves root version us t place.CopyRight k = absurd k
-  scan-moves root version us t place.Word189 k = absurd k
-  scan-moves root version us t place.Leaf190 k = absurd k
-  scan-moves root version us t place.Frozen97 k = absurd k
-  scan-moves root version us t place.State98 k = absurd k
-  scan-moves root version us t place.Freeze103 k = absurd k
-  scan-moves root version us t (place.Help c Own) k = absurd k
-  scan-moves root version us t (place.Help c Again) k = absurd k
-  scan-moves root version us t (place.Help c Node) k = help-turns w s h G H v us (ls .found) T c k
-  scan-moves root version us t place.Counter130 k = looks w s G H (record { none-pending = k .none-pending; none-found = k .none-found; taken = omega (arith, k .taken) })
-  scan-moves root version us t place.Bump131 k = bump-moves w s h G H v us (ls .found) T root version k
-  scan-moves root version us t place.Word139 k = word-moves w s h G H v us (ls .found) T k
-  scan-moves root version us t place.State140 k = state-moves w s h G H v us (ls .found) T k
-  scan-moves root version us t place.Child141 k = child-moves us (tied-length ls us t) k
-  scan-moves root version us t place.Left144 k = left-moves us t (k .0) (k .1)
+  scan-moves root version us t = by-place (view s) G v us (ls .found) T (λ q. Decided w s G (v .seq .0) us (ls .found) T (scan s ls a b v q))
+      (help-turns w s h G H v us (ls .found) T)
+      (λ k. looks w s G H (record { none-pending = k .none-pending; none-found = k .none-found; taken = omega (arith, k .taken) }))
+      (bump-moves w s h G H v us (ls .found) T root version)
+      (word-moves w s h G H v us (ls .found) T)
+      (state-moves w s h G H v us (ls .found) T)
+      (child-moves us (tied-length ls us t))
+      (λ k. left-moves us t (k .0) (k .1))

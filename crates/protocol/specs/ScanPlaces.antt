@@ -76,3 +76,37 @@ ScanKnows X G v us found T place.Word139 = AtNode X G (v .seq .0) (v .p .0) us f
 ScanKnows X G v us found T place.State140 = AtNode X G (v .seq .0) (v .p .0) us found T 1 × ((m : ℕ) × Seen X G (v .p .0) (update m (v .info)))
 ScanKnows X G v us found T place.Child141 = AtNode X G (v .seq .0) (v .p .0) us found T 14
 ScanKnows X G v us found T place.Left144 = OnWalk X G (v .seq .0) between us found T 0 × (0 < length us)
+
+-- what is to be shown where a scan may be: at its seven places, and nothing at the others
+pub by-place : (X : View) (G : Ghost) (v : Locals) (us : List ℕ) (found T : ℕ) (Q : Place → Type 0)
+    → ((b : HelpStep) → ScanKnows X G v us found T (place.Help b Node) → Q (place.Help b Node))
+    → (ScanKnows X G v us found T place.Counter130 → Q place.Counter130)
+    → (ScanKnows X G v us found T place.Bump131 → Q place.Bump131)
+    → (ScanKnows X G v us found T place.Word139 → Q place.Word139)
+    → (ScanKnows X G v us found T place.State140 → Q place.State140)
+    → (ScanKnows X G v us found T place.Child141 → Q place.Child141)
+    → (ScanKnows X G v us found T place.Left144 → Q place.Left144)
+    → (q : Place) → ScanKnows X G v us found T q → Q q
+by-place X G v us found T Q help c130 b131 w139 s140 c141 l144 place.Counter74 k = absurd k
+by-place X G v us found T Q help c130 b131 w139 s140 c141 l144 place.Search39 k = absurd k
+by-place X G v us found T Q help c130 b131 w139 s140 c141 l144 (place.Link a b) k = absurd k
+by-place X G v us found T Q help c130 b131 w139 s140 c141 l144 place.Word66 k = absurd k
+by-place X G v us found T Q help c130 b131 w139 s140 c141 l144 place.Grand66 k = absurd k
+by-place X G v us found T Q help c130 b131 w139 s140 c141 l144 place.Leaf164 k = absurd k
+by-place X G v us found T Q help c130 b131 w139 s140 c141 l144 place.Sibling182 k = absurd k
+by-place X G v us found T Q help c130 b131 w139 s140 c141 l144 place.CopyLeft k = absurd k
+by-place X G v us found T Q help c130 b131 w139 s140 c141 l144 place.CopyRight k = absurd k
+by-place X G v us found T Q help c130 b131 w139 s140 c141 l144 place.Word189 k = absurd k
+by-place X G v us found T Q help c130 b131 w139 s140 c141 l144 place.Leaf190 k = absurd k
+by-place X G v us found T Q help c130 b131 w139 s140 c141 l144 place.Frozen97 k = absurd k
+by-place X G v us found T Q help c130 b131 w139 s140 c141 l144 place.State98 k = absurd k
+by-place X G v us found T Q help c130 b131 w139 s140 c141 l144 place.Freeze103 k = absurd k
+by-place X G v us found T Q help c130 b131 w139 s140 c141 l144 (place.Help b Own) k = absurd k
+by-place X G v us found T Q help c130 b131 w139 s140 c141 l144 (place.Help b Again) k = absurd k
+by-place X G v us found T Q help c130 b131 w139 s140 c141 l144 (place.Help b Node) k = help b k
+by-place X G v us found T Q help c130 b131 w139 s140 c141 l144 place.Counter130 k = c130 k
+by-place X G v us found T Q help c130 b131 w139 s140 c141 l144 place.Bump131 k = b131 k
+by-place X G v us found T Q help c130 b131 w139 s140 c141 l144 place.Word139 k = w139 k
+by-place X G v us found T Q help c130 b131 w139 s140 c141 l144 place.State140 k = s140 k
+by-place X G v us found T Q help c130 b131 w139 s140 c141 l144 place.Child141 k = c141 k
+by-place X G v us found T Q help c130 b131 w139 s140 c141 l144 place.Left144 k = l144 k
