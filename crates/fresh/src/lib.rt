@@ -1,146 +1,25 @@
 // 01, 'Fresh tables'.
-use fields::idle;
+mod clearing; // the first places of a list 0
+mod making; // each table fresh
+
+use crate::clearing::clear;
+use crate::clearing::clear_keys;
+use crate::making::fresh_board;
+use crate::making::fresh_nodes;
+use crate::making::fresh_records;
 use fields::lent_ok;
-use fields::new_node;
-use fields::new_record;
 use fields::sizes_ok;
-use fields::unfilled;
 use shapes::Board;
-use shapes::MaybeNode;
-use shapes::NodeNo;
 use shapes::Outcome;
-use shapes::Phase;
-use shapes::Rank;
-use shapes::RecordNo;
 use shapes::Refusal;
 use shapes::Reply;
-use shapes::Totals;
-use shapes::Worker;
-use tables::ABORT;
-use tables::INTERNAL;
-use tables::LEAF;
-use tables::NODE_WIDTH;
-use tables::RECORD_WIDTH;
 ghost use mathlib.Core.Path.{_≡_};
 ghost use mathlib.Core.Bool.{_&&_};
 ghost use Prim.Native.Nat.{_*_, _≤_};
 ghost use lib.ListN.{length};
 ghost use lib.IntN.{pos};
-ghost use Rattle.tables.specs.Names.{infinite};
-ghost use Rattle.tables.specs.World.{world, idle};
-ghost use Rattle.tables.specs.Fresh.{sizesOk, lentOk, cleared, freshNodes, freshRecords, freshBoard, freshOf, left};
-
-// ---- the first k places 0; what lies beyond them keeps its contents
-
-fn clear(t: &mut [u32], k: usize)
-    requires { ⌜ k ≤ length (now t) ⌝ }
-    ensures { λ r. ⌜ now (t .exit) ≡ cleared k 0 (now (t .entry)) ⌝ }
-{
-    let mut i = 0;
-    while i < k {
-        t[i] = 0;
-        i += 1;
-    }
-}
-
-fn clear_keys(t: &mut [i32], k: usize)
-    requires { ⌜ k ≤ length (now t) ⌝ }
-    ensures { λ r. ⌜ now (t .exit) ≡ cleared k (pos 0) (now (t .entry)) ⌝ }
-{
-    let mut i = 0;
-    while i < k {
-        t[i] = 0;
-        i += 1;
-    }
-}
-
-fn clear_workers(workers: [Worker; 8], p: u32) -> [Worker; 8]
-    requires { ⌜ p ≤ 8 ⌝ }
-    ensures { λ r. ⌜ r ≡ cleared p idle workers ⌝ }
-{
-    let mut all = workers;
-    let mut w = 0;
-    while w < p as usize {
-        all[w] = idle();
-        w += 1;
-    }
-    all
-}
-
-// ---- each table
-
-fn infinite(class: u32) -> Rank
-    ensures { λ r. ⌜ r ≡ infinite class ⌝ }
-{
-    Rank { class, word: 0 }
-}
-
-// The Root, and its leaves ∞1 and ∞2.
-fn fresh_nodes(n: u32, ns: &mut [u32])
-    requires { ⌜ n * 10 ≤ length (now ns) ⌝ }
-    ensures { λ r. ⌜ now (ns .exit) ≡ freshNodes n (now (ns .entry)) ⌝ }
-{
-    let none = NodeNo(0);
-    clear(ns, n as usize * NODE_WIDTH as usize);
-    new_node(
-        ns,
-        NodeNo(0),
-        INTERNAL,
-        infinite(2),
-        Phase(0),
-        MaybeNode::Absent,
-        NodeNo(1),
-        NodeNo(2),
-    );
-    new_node(
-        ns,
-        NodeNo(1),
-        LEAF,
-        infinite(1),
-        Phase(0),
-        MaybeNode::Absent,
-        none,
-        none,
-    );
-    new_node(
-        ns,
-        NodeNo(2),
-        LEAF,
-        infinite(2),
-        Phase(0),
-        MaybeNode::Absent,
-        none,
-        none,
-    );
-}
-
-// The dummy.
-fn fresh_records(m: u32, rs: &mut [u32])
-    requires { ⌜ m * 22 ≤ length (now rs) ⌝ }
-    ensures { λ r. ⌜ now (rs .exit) ≡ freshRecords m (now (rs .entry)) ⌝ }
-{
-    clear(rs, m as usize * RECORD_WIDTH as usize);
-    new_record(rs, RecordNo(0), ABORT, unfilled());
-}
-
-fn fresh_board(n: u32, m: u32, p: u32, board: Board) -> Board
-    requires { ⌜ p ≤ 8 ⌝ }
-    ensures { λ r. ⌜ r ≡ freshBoard n m p board ⌝ }
-{
-    let totals = Totals {
-        n,
-        m,
-        p,
-        nodes: 3,
-        records: 1,
-        counter: 0,
-    };
-    let before = board.workers;
-    let workers = clear_workers(before, p);
-    Board { totals, workers }
-}
-
-// ---- all of them
+ghost use Rattle.tables.specs.World.{world};
+ghost use Rattle.tables.specs.Fresh.{sizesOk, lentOk, cleared, freshNodes, freshRecords, freshOf, left};
 
 // The sizes and the lent tables are as 01 asks, whatever the board.
 fn asked_ok(

@@ -11,7 +11,7 @@ use Rattle.shapes.specs.declared.Next.{Next}
 use Rattle.shapes.specs.declared.Decision.{Decision}
 use Rattle.shapes.specs.declared.Decision.the-variants as decision
 use Rattle.steps.specs.Scan.{Lists, Range}
-use Rattle.sweep.specs.declared.Visit.{Visit}
+use Rattle.sweep.specs.declared.visits.Visit.{Visit}
 
 abbrev pub span : Key → Key → Phase → Range
 span low high seq = record { low = low; high = high; seq = seq }
