@@ -49,7 +49,8 @@ use Rattle.steps.specs.Execute.{frozen, oldUpdate, insertFilling, deleteFilling
 use Rattle.steps.specs.Help.{helpOf, helpNext}
 use Rattle.steps.specs.Decide.{attempt}
 use Rattle.kept.specs.Later.{hand-later}
-use Rattle.kept.specs.Effects.{Parent, Room, Fillable, grows-taken}
+use Rattle.kept.specs.Fits.{Parent, Room, Fillable}
+use Rattle.kept.specs.Takings.{grows-taken}
 use Rattle.kept.specs.Good.{Allowed, Good, hand-downTo, hand-leaf, hand-up, hand-pup, hand-gpup, hand-sup, hand-lup, hand-sibling, hand-taken, hand-i, hand-bare, hand-holding, good-does, good-goes, good-says, good-retries, good-helps, good-pick, good-through, parent-at, child-used, read-used}
 use Rattle.kept.specs.Helping.{positive, helped, entry-sound, help-good, Returns, next-good}
 

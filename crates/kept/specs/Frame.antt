@@ -32,7 +32,8 @@ use Rattle.sound.specs.Meaning.{ConditionSound, Sound}
 use Rattle.steps.specs.Apply.{apply, takenRecord}
 use Rattle.steps.specs.Turn.{pushed, added, settled, settle, listsOf, stepOn, stepOf, turnOf}
 use Rattle.kept.specs.Later.{KeepsFixed, Later, grows-same}
-use Rattle.kept.specs.Effects.{Fits, effect-keeps}
+use Rattle.kept.specs.Fits.{Fits}
+use Rattle.kept.specs.Effects.{effect-keeps}
 use Rattle.kept.specs.Good.{PendingFits, FoundFits, GoodStep, Good}
 use Rattle.kept.specs.Kept.{homeOf, listedBy, decide-good, spot-other, top-used}
 use Rattle.kept.specs.Touched.{Changeable, none, touched, valueAt, UsedWord, one-word}

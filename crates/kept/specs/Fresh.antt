@@ -22,7 +22,8 @@ use Rattle.tables.specs.Fresh.{sizesOk, lentOk, cleared, freshNodes, freshRecor
 use Rattle.sound.specs.Sound.{soundOf}
 use Rattle.sound.specs.Meaning.{WordSound, RankSound, NodeSound, RootSound, SizesSound, WorkerSound, TablesSound, Sound}
 use Rattle.sound.specs.Agree.{says-sizes, says-lent, says-sound}
-use Rattle.kept.specs.Effects.{NodesSound, nodes-new, keeps-new}
+use Rattle.kept.specs.Writes.{NodesSound}
+use Rattle.kept.specs.Takings.{nodes-new, keeps-new}
 
 -- ---- cleared lists
 

@@ -39,7 +39,8 @@ use Rattle.sound.specs.Meaning.{WordSound, MaybeSound, PrevSound, HandSound, Wi
 use Rattle.steps.specs.Hand.{atWord, holding, downTo, withLeaf, withUp, withPup, withGpup, withSup, withLup, withSibling, withTaken, withI, does, goes, says, retries, helps, through}
 use Rattle.steps.specs.Apply.{apply}
 use Rattle.steps.specs.Turn.{pendingLeft}
-use Rattle.kept.specs.Effects.{Parent, Fits, kind-one}
+use Rattle.kept.specs.Fits.{Parent, Fits}
+use Rattle.kept.specs.Writes.{kind-one}
 
 -- ---- good decisions
 

@@ -32,7 +32,7 @@ use Rattle.sound.specs.Agree.{entry-of, count-small}
 use Rattle.steps.specs.Hand.{withI}
 use Rattle.steps.specs.Apply.{apply}
 use Rattle.steps.specs.Help.{counter111, stateCas, state114, freezeCas, frozen119, casChild, state125, helpStep, helpOf, backTo, helpNext}
-use Rattle.kept.specs.Effects.{Fits}
+use Rattle.kept.specs.Fits.{Fits}
 use Rattle.kept.specs.Good.{Good, hand-i, hand-bare, good-does, good-goes, good-says, good-retries, good-pick}
 
 -- ---- a record that may be helped

@@ -1,4 +1,7 @@
 pub mod Later
+pub mod Fits
+pub mod Writes
+pub mod Takings
 pub mod Effects
 pub mod Good
 pub mod Helping

@@ -32,7 +32,8 @@ use Rattle.steps.specs.Scan.{Lists, Range, bump131, word139, state140, leaves, 
 use Rattle.steps.specs.Turn.{pendingLeft}
 use Rattle.steps.specs.Decide.{scan}
 use Rattle.kept.specs.Later.{hand-later}
-use Rattle.kept.specs.Effects.{Parent, grows-bump}
+use Rattle.kept.specs.Fits.{Parent}
+use Rattle.kept.specs.Takings.{grows-bump}
 use Rattle.kept.specs.Good.{Allowed, PendingFits, FoundFits, Good, hand-bare, hand-blank, good-does, good-goes, good-says, good-pick, good-through, parent-at, read-used}
 use Rattle.kept.specs.Helping.{help-good, Returns, next-good}
 
