@@ -2,8 +2,8 @@
 use mathlib.Core.Path.{refl}
 use borrow.Author.Needs.{needs}
 use Rattle.steps.specs.Decide.{scan}
-use Rattle.deciding.proofs.decide_scan.Statement.{statement}
-use Rattle.deciding.proofs.decide_scan.Tie as tie
+use Rattle.scanning.proofs.decide_scan.Statement.{statement}
+use Rattle.scanning.proofs.decide_scan.Tie as tie
 
 enum-told : tie.Need-enum-told
 enum-told c = search needs

@@ -1,7 +1,7 @@
 -- `decide_help`: one step of HELP, and what follows it.
 use borrow.Author.Needs.{needs}
-use Rattle.deciding.proofs.decide_help.Statement.{statement}
-use Rattle.deciding.proofs.decide_help.Tie as tie
+use Rattle.scanning.proofs.decide_help.Statement.{statement}
+use Rattle.scanning.proofs.decide_help.Tie as tie
 
 help-of-requires : tie.Need-help-of-requires
 help-of-requires c κs = search needs
