@@ -4,15 +4,13 @@ use fields::kind_at;
 use fields::new_node;
 use fields::new_record;
 use fields::rank_at;
-use shapes::Entry;
-use shapes::Filling;
+use fields::unfilled;
 use shapes::Key;
 use shapes::MaybeNode;
 use shapes::NodeNo;
 use shapes::Phase;
 use shapes::Rank;
 use shapes::RecordNo;
-use shapes::Update;
 use tables::ABORT;
 use tables::INTERNAL;
 use tables::LEAF;
@@ -20,7 +18,6 @@ ghost use mathlib.Core.Path.{_≡_};
 ghost use Prim.Native.Nat.{_≤_};
 ghost use Rattle.shapes.specs.Numbers.{mostN};
 ghost use Rattle.tables.specs.Names.{finite};
-ghost use Rattle.tables.specs.Records.{unfilled};
 ghost use Rattle.steps.specs.Apply.{topOf, threeNodes, copyOf, takenRecord};
 
 fn finite(k: Key) -> Rank
@@ -76,31 +73,6 @@ pub fn copy_of(nodes: &mut [u32], u: u32, sibling: NodeNo, p: NodeNo, q: Phase)
     let b = rank_at(nodes, sibling);
     let none = NodeNo(0);
     new_node(nodes, NodeNo(u), kind, b, q, MaybeNode::At(p), none, none);
-}
-
-fn unfilled() -> Filling
-    ensures { λ f. ⌜ f ≡ unfilled ⌝ }
-{
-    let none = NodeNo(0);
-    let entry = Entry {
-        node: none,
-        old: Update {
-            mark: 0,
-            info: RecordNo(0),
-        },
-        mark: 0,
-    };
-    Filling {
-        count: 0,
-        par: none,
-        old: none,
-        new: none,
-        seq: Phase(0),
-        first: entry,
-        second: entry,
-        third: entry,
-        fourth: entry,
-    }
 }
 
 pub fn taken_record(records: &mut [u32], u: u32)

@@ -1,6 +1,6 @@
 // The decisions that leave a worker's lists alone.
-use crate::making::blank_hand;
 use crate::making::holding_record;
+use fields::blank;
 use shapes::Answer;
 use shapes::Back;
 use shapes::Decision;
@@ -39,7 +39,7 @@ pub fn say(a: Answer) -> Decision
 {
     Decision::Go(Step {
         effect: Effect::Nothing,
-        hand: blank_hand(),
+        hand: blank(),
         pending: PendingChange::Keep,
         found: FoundChange::Keep,
         next: Next::Answers(a),
@@ -49,7 +49,7 @@ pub fn say(a: Answer) -> Decision
 pub fn retry() -> Decision
     ensures { λ r. ⌜ r ≡ retries ⌝ }
 {
-    go_to(blank_hand(), Place::Counter74)
+    go_to(blank(), Place::Counter74)
 }
 
 pub fn help_then_retry(r: RecordNo) -> Decision

@@ -11,7 +11,6 @@ pub use decisions::say;
 pub use making::at_node;
 pub use making::at_root;
 pub use making::at_word;
-pub use making::blank_hand;
 pub use making::fresh_word;
 pub use making::holding_record;
 use shapes::Update;

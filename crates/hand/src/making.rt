@@ -7,7 +7,6 @@ use shapes::RecordNo;
 use shapes::Update;
 ghost use mathlib.Core.Path.{_≡_};
 ghost use Rattle.tables.specs.Names.{freshWord};
-ghost use Rattle.tables.specs.World.{blank};
 ghost use Rattle.steps.specs.Hand.{atRoot, atNode, atWord, holding};
 
 pub fn fresh_word() -> Update
@@ -40,12 +39,6 @@ pub fn at_word(seq: Phase, x: NodeNo, r: RecordNo) -> Locals
         info: r,
         i: 0,
     }
-}
-
-pub fn blank_hand() -> Locals
-    ensures { λ v. ⌜ v ≡ blank ⌝ }
-{
-    at_word(Phase(0), NodeNo(0), RecordNo(0))
 }
 
 pub fn at_root(seq: Phase) -> Locals

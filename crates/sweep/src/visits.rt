@@ -1,11 +1,11 @@
 // SCANHELPER: what the node that is come to asks for.
+use fields::blank;
 use fields::is_internal;
 use fields::key_at;
 use fields::rank_at;
 use fields::read_child;
 use hand::at_node;
 use hand::at_root;
-use hand::blank_hand;
 use shapes::Answer;
 use shapes::Decision;
 use shapes::Effect;
@@ -83,12 +83,7 @@ fn leaves(visit: Visit, found: FoundChange, keys: u32) -> Decision
     ensures { λ r. ⌜ r ≡ leaves (range visit) (visit .change) found (visit .pending) keys ⌝ }
 {
     if visit.pending == 0 {
-        return sweep_on(
-            visit,
-            blank_hand(),
-            found,
-            Next::Answers(Answer::Keys(keys)),
-        );
+        return sweep_on(visit, blank(), found, Next::Answers(Answer::Keys(keys)));
     }
     sweep_on(visit, at_root(visit.seq), found, Next::At(Place::Left144))
 }

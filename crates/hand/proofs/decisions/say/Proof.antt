@@ -3,11 +3,11 @@ use borrow.Author.Needs.{needs}
 use Rattle.hand.proofs.decisions.say.Statement.{statement}
 use Rattle.hand.proofs.decisions.say.Tie as tie
 
-blank-hand-requires : tie.Need-blank-hand-requires
-blank-hand-requires c κs = search needs
+blank-requires : tie.Need-blank-requires
+blank-requires c κs = search needs
 
 returns : tie.Need-returns
-returns c = rw (c .blank-hand .ensures)
+returns c = rw (c .blank .ensures)
 
 pub say-spec : {M : Type 1} → statement M
-say-spec = tie.close (tie.spec blank-hand-requires returns)
+say-spec = tie.close (tie.spec blank-requires returns)

@@ -6,15 +6,15 @@ use Rattle.steps.specs.Scan.{leaves}
 use Rattle.sweep.proofs.visits.leaves.Statement.{statement}
 use Rattle.sweep.proofs.visits.leaves.Tie as tie
 
-blank-hand-requires : tie.Need-blank-hand-requires
-blank-hand-requires c κs = search needs
+blank-requires : tie.Need-blank-requires
+blank-requires c κs = search needs
 
 sweep-on-requires : tie.Need-sweep-on-requires
 sweep-on-requires c κs = search needs
 
 returns : tie.Need-returns
 unfolding leaves pick
-returns c = rw (c .sweep-on .ensures, c .before .blank-hand .ensures, eq-eqb _ _ (c .before .before .if1 .taken))
+returns c = rw (c .sweep-on .ensures, c .before .blank .ensures, eq-eqb _ _ (c .before .before .if1 .taken))
 
 at-root-requires : tie.Need-at-root-requires
 at-root-requires c κs = search needs
@@ -30,7 +30,7 @@ pub leaves-spec : {M : Type 1} → statement M
 leaves-spec =
     tie.close
     (tie.spec
-    blank-hand-requires
+    blank-requires
     sweep-on-requires
     returns
     at-root-requires
