@@ -1,8 +1,5 @@
 // The code that tells sound tables from spoiled ones.
-mod homes; // which places are whose
-mod workers; // a worker, all workers
-
-use crate::workers::workers_ok;
+use crew::workers_ok;
 use fields::lent_ok;
 use fields::sizes_ok;
 use rows::dummy_ok;
