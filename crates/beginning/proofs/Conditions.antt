@@ -9,7 +9,7 @@ use Rattle.shapes.specs.declared.Condition.the-variants.{Idle, Busy}
 use Rattle.shapes.specs.declared.Outcome.the-variants.{Going}
 use Rattle.shapes.specs.declared.Refusal.the-variants as refusal
 use Rattle.boards.specs.Boards.{workerOf, withWorker, refusedBy}
-use Rattle.starting.specs.Starts.{holding, begun}
+use Rattle.beginning.specs.Starts.{holding, begun}
 
 module _ (b : Board) (w : ℕ) (o : Operation) (k : Worker) (e : k ≡ workerOf b w) where
   pub busy-refused : (old : Operation) → k .condition ≡ Busy old → refusedBy b refusal.Busy ≡ begun b w o (workerOf b w .condition)

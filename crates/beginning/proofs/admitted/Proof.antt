@@ -2,10 +2,10 @@
 use mathlib.Core.Path.{refl, sym, _∙_}
 use borrow.Author.Tests.{lt-ltb, le-ltb}
 use Rattle.laws.specs.Choice.{pick-true, pick-false}
-use Rattle.starting.specs.Starts.{admitted}
+use Rattle.beginning.specs.Starts.{admitted}
 use borrow.Author.Needs.{needs}
-use Rattle.starting.proofs.admitted.Statement.{statement}
-use Rattle.starting.proofs.admitted.Tie as tie
+use Rattle.beginning.proofs.admitted.Statement.{statement}
+use Rattle.beginning.proofs.admitted.Tie as tie
 
 refuse-requires : tie.Need-refuse-requires
 refuse-requires c κs = search needs

@@ -1,8 +1,8 @@
 -- `holding` is its definition: nothing in hand, no found keys.
 use mathlib.Core.Path.{refl}
 use borrow.Author.Needs.{needs}
-use Rattle.starting.proofs.holding.Statement.{statement}
-use Rattle.starting.proofs.holding.Tie as tie
+use Rattle.beginning.proofs.holding.Statement.{statement}
+use Rattle.beginning.proofs.holding.Tie as tie
 
 blank-requires : tie.Need-blank-requires
 blank-requires c κs = search needs

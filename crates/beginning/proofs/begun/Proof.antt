@@ -1,9 +1,9 @@
 -- `begun` is its definition: the worker's condition chooses (Conditions).
 use mathlib.Core.Path.{_∙_}
 use borrow.Author.Needs.{needs}
-use Rattle.starting.proofs.Conditions.{busy-refused, idle-begins}
-use Rattle.starting.proofs.begun.Statement.{statement}
-use Rattle.starting.proofs.begun.Tie as tie
+use Rattle.beginning.proofs.Conditions.{busy-refused, idle-begins}
+use Rattle.beginning.proofs.begun.Statement.{statement}
+use Rattle.beginning.proofs.begun.Tie as tie
 
 worker-of-requires : tie.Need-worker-of-requires
 worker-of-requires c κs = search needs

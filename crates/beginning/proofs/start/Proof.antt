@@ -3,10 +3,10 @@ use mathlib.Core.Path.{refl, sym, _∙_}
 use borrow.Author.Tests.{not-true, not-false}
 use Rattle.laws.specs.Choice.{pick-false}
 use Rattle.steps.specs.Turn.{startOf}
-use Rattle.starting.specs.Starts.{sound-start}
+use Rattle.beginning.specs.Starts.{sound-start}
 use borrow.Author.Needs.{needs}
-use Rattle.starting.proofs.start.Statement.{statement}
-use Rattle.starting.proofs.start.Tie as tie
+use Rattle.beginning.proofs.start.Statement.{statement}
+use Rattle.beginning.proofs.start.Tie as tie
 
 is-sound-requires : tie.Need-is-sound-requires
 is-sound-requires c κs = search needs
