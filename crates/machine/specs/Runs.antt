@@ -1,33 +1,19 @@
 -- A run looks at the tables once: an accepted turn keeps sound tables sound, so every later look would find them so.
 use Prim.Native.Nat.{ℕ, zero, suc, _<_}
 use native.Mathlib.Omega.{arith}
-use mathlib.Core.Path.{_≡_, refl, sym, subst, _∙_}
-use mathlib.Core.List.{List}
+use mathlib.Core.Path.{_≡_, refl, sym, ap, subst, _∙_}
 use mathlib.Core.Bool.{true, false}
-use lib.IntN.{ℤ}
 use Rattle.laws.specs.Choice.{pick-true, pick-false}
-use Rattle.shapes.specs.declared.Run.{Run}
 use Rattle.shapes.specs.declared.Outcome.{Outcome}
 use Rattle.shapes.specs.declared.Outcome.the-variants.{Going, Said, Refused}
 use Rattle.shapes.specs.declared.Refusal.the-variants as refusal
-use Rattle.tables.specs.World.{World, world}
+use Rattle.tables.specs.World.{World}
 use Rattle.tables.specs.Fresh.{Left, refused}
 use Rattle.sound.specs.Sound.{soundOf}
 use Rattle.steps.specs.Turn.{stepOf, turnOf, Ran, goesOn, runFrom, runOf}
 use Rattle.kept.specs.Kept.{turn-keeps-sound}
 use Rattle.turning.specs.Fits.{stepWithin, sound-step}
-
--- all that a run leaves
-abbrev pub ran : Run → List ℕ → List ℕ → List ℕ → List ℤ → Ran
-ran r ns rs ps fs = record { world = world (r .board) ns rs ps fs; outcome = r .outcome; turns = r .turns }
-
--- `runFrom` without the looks
-unfoldable pub stepsFrom : ℕ → ℕ → ℕ → World → Ran
-stepsFrom zero n w s = record { world = s; outcome = Going; turns = n }
-stepsFrom (suc k) n w s =
-    let d = stepWithin s w in
-    let rest = stepsFrom k (suc n) w (d .world) in
-    goesOn (d .outcome) (d .world) n rest
+use Rattle.running.specs.Loop.{stepsFrom}
 
 -- on sound tables a turn is a step
 pub turn-steps : (s : World) (w : ℕ) → soundOf s ≡ true → turnOf s w ≡ stepWithin s w
@@ -41,7 +27,9 @@ step-keeps-sound s w h = subst (λ (d : Left). soundOf (d .world) ≡ true) (tur
 pub checked-once : (k n w : ℕ) (s : World) → soundOf s ≡ true → runFrom k n w s ≡ stepsFrom k n w s
 unfolding runFrom stepsFrom
 checked-once zero n w s h = refl
-checked-once (suc k) n w s h = rw (turn-steps s w h, checked-once k (suc n) w (stepWithin s w .world) (step-keeps-sound s w h)) refl
+checked-once (suc k) n w s h =
+    ap (λ (d : Left). goesOn (d .outcome) (d .world) n (runFrom k (suc n) w (d .world))) (turn-steps s w h) ∙
+    ap (λ (rest : Ran). goesOn (stepWithin s w .outcome) (stepWithin s w .world) n rest) (checked-once k (suc n) w (stepWithin s w .world) (step-keeps-sound s w h))
 
 -- refusal 1: spoiled tables refuse the first turn, and no turn is counted
 pub spoiled-run : (k w : ℕ) (s : World) → 0 < k → soundOf s ≡ false → runFrom k 0 w s ≡ record { world = s; outcome = Refused refusal.Table; turns = 0 }

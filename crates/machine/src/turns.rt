@@ -1,63 +1,16 @@
 // A run of turns, and one turn.
 use checking::is_sound;
+use running::steps;
 use shapes::Board;
 use shapes::Outcome;
 use shapes::Refusal;
 use shapes::Reply;
 use shapes::Run;
-use turning::step;
 ghost use mathlib.Core.Path.{_≡_};
 ghost use Rattle.tables.specs.World.{world};
 ghost use Rattle.tables.specs.Fresh.{left};
 ghost use Rattle.steps.specs.Turn.{turnOf, runOf};
-ghost use Rattle.machine.specs.Runs.{ran, stepsFrom};
-
-// Turns until an answer, a refusal or n of them; the accepted ones are counted.
-fn steps(
-    board: Board,
-    w: u32,
-    n: u32,
-    nodes: &mut [u32],
-    records: &mut [u32],
-    pending: &mut [u32],
-    found: &mut [i32],
-) -> Run
-    ensures { λ r. ⌜ ran r (now (nodes .exit)) (now (records .exit)) (now (pending .exit)) (now (found .exit)) ≡ stepsFrom n 0 w (world board (now (nodes .entry)) (now (records .entry)) (now (pending .entry)) (now (found .entry))) ⌝ }
-{
-    let mut b = board;
-    let mut turns = 0;
-    while turns < n {
-        let reply = step(b, w, nodes, records, pending, found);
-        let after = reply.board;
-        let outcome = reply.outcome;
-        let taken = turns + 1;
-        match outcome {
-            Outcome::Going => {
-                b = after;
-                turns = taken;
-            }
-            Outcome::Said(a) => {
-                return Run {
-                    board: after,
-                    outcome: Outcome::Said(a),
-                    turns: taken,
-                };
-            }
-            Outcome::Refused(why) => {
-                return Run {
-                    board: after,
-                    outcome: Outcome::Refused(why),
-                    turns,
-                };
-            }
-        }
-    }
-    Run {
-        board: b,
-        outcome: Outcome::Going,
-        turns,
-    }
-}
+ghost use Rattle.running.specs.Loop.{ran};
 
 // The tables are looked at once: an accepted turn keeps sound tables sound.
 pub fn run(

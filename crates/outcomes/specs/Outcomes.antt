@@ -18,7 +18,7 @@ use Rattle.tables.specs.World.{World}
 use Rattle.tables.specs.Fresh.{Left, left, freshOf}
 use Rattle.sound.specs.Sound.{soundOf}
 use Rattle.steps.specs.Turn.{Ran, insertOf, deleteOf, findOf, scanOf, turnOf, runOf}
-use Rattle.machine.specs.Runs.{ran}
+use Rattle.running.specs.Loop.{ran}
 use Rattle.lister.specs.Outcomes.{list-once}
 use Rattle.schedule.specs.Outcomes.{read-opening-once, read-command-once, write-opening-once, write-command-once}
 use Rattle.schedule.specs.declared.Command.{Command}
