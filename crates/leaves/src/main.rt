@@ -1,4 +1,4 @@
-// Prints what `groups` and `laps` answer to a table of values, a line to each row. The table is read from standard input.
+// Prints what `groups`, `unpack`, `pack` and `laps` answer to a table of values, a line to each row. The table is read from standard input.
 //
 // A row has ten bytes: a kind, a count from 0 to 8, and a payload of eight. Numbers stand in the payload lowest byte first.
 //
@@ -107,7 +107,7 @@ fn spell(n: u32, buffer: &mut [u8; BUFFER_SIZE]) -> usize
     ensures { λ r. ⌜ Counts r (now (buffer .exit)) ⌝ }
     ensures { λ r. ⌜ take r (now (buffer .exit)) ≡ groupsOf n ⌝ }
 {
-    groups::write(n, buffer, 0);
+    pack::write(n, buffer, 0);
     groups::length(n)
 }
 
@@ -115,7 +115,7 @@ fn spell_signed(n: i32, buffer: &mut [u8; BUFFER_SIZE]) -> usize
     ensures { λ r. ⌜ Counts r (now (buffer .exit)) ⌝ }
     ensures { λ r. ⌜ take r (now (buffer .exit)) ≡ groupsOf (codeOf n) ⌝ }
 {
-    groups::write_signed(n, buffer, 0);
+    pack::write_signed(n, buffer, 0);
     groups::length(groups::code(n))
 }
 
@@ -124,7 +124,7 @@ fn write_in_front(n: u32, buffer: &mut [u8], at: usize, room: usize) -> Written
     requires { ⌜ room ≤ length (now buffer) ⌝ }
     ensures { λ r. ⌜ left r (now (buffer .exit)) ≡ writeInFront n (now (buffer .entry)) at room ⌝ }
 {
-    groups::write(n, &mut buffer[..room], at)
+    pack::write(n, &mut buffer[..room], at)
 }
 
 // ---- words of a line
@@ -204,7 +204,7 @@ fn show_reading(bytes: &[u8]) {
     say(b"read");
     say_bytes(bytes);
     say(b" = ");
-    match groups::read(bytes) {
+    match unpack::read(bytes) {
         Reading::Number(n, taken) => {
             say_number(n);
             say(b" ");
@@ -218,7 +218,7 @@ fn show_signed_reading(bytes: &[u8]) {
     say(b"readsigned");
     say_bytes(bytes);
     say(b" = ");
-    match groups::read_signed(bytes) {
+    match unpack::read_signed(bytes) {
         SignedReading::Number(n, taken) => {
             say_signed(n);
             say(b" ");

@@ -26,17 +26,17 @@ enum Three {
 fn read_three(rest: &[u8]) -> Three
     ensures { λ r. ⌜ threeOf r ≡ numbersAt 3 (now (rest .entry)) ⌝ }
 {
-    let first = groups::read(rest);
+    let first = unpack::read(rest);
     let Reading::Number(a, a_end) = first else {
         return Three::Faulty;
     };
     let behind_a = &rest[a_end..];
-    let second = groups::read(behind_a);
+    let second = unpack::read(behind_a);
     let Reading::Number(b, b_end) = second else {
         return Three::Faulty;
     };
     let behind_b = &behind_a[b_end..];
-    let third = groups::read(behind_b);
+    let third = unpack::read(behind_b);
     let Reading::Number(c, c_end) = third else {
         return Three::Faulty;
     };
@@ -96,7 +96,7 @@ pub fn read_command(rest: &[u8]) -> CommandReading
     if kind != SCAN {
         return command_of(kind, worker, a, 0, end);
     }
-    let fourth = groups::read(&rest[end..]);
+    let fourth = unpack::read(&rest[end..]);
     let Reading::Number(b, b_end) = fourth else {
         return CommandReading::Faulty;
     };

@@ -59,12 +59,12 @@ fn put_numbers(x: Numbers, buffer: &mut [u8], at: usize)
 {
     let b_at = at + groups::length(x.a);
     let c_at = b_at + groups::length(x.b);
-    groups::write(x.a, buffer, at);
-    groups::write(x.b, buffer, b_at);
-    groups::write(x.c, buffer, c_at);
+    pack::write(x.a, buffer, at);
+    pack::write(x.b, buffer, b_at);
+    pack::write(x.c, buffer, c_at);
     if x.four {
         let d_at = c_at + groups::length(x.c);
-        groups::write(x.d, buffer, d_at);
+        pack::write(x.d, buffer, d_at);
     }
 }
 

@@ -1,8 +1,8 @@
--- `groups::read` meets its contract: it reads up to as many groups as 32 bits take.
+-- `unpack::read` meets its contract: it reads up to as many groups as 32 bits take.
 use Rattle.groups.specs.Format.{reading, mostGroups}
 use borrow.Author.Needs.{needs}
-use Rattle.groups.proofs.read.Statement.{statement}
-use Rattle.groups.proofs.read.Tie as tie
+use Rattle.unpack.proofs.read.Statement.{statement}
+use Rattle.unpack.proofs.read.Tie as tie
 
 read-groups-requires : tie.Need-read-groups-requires
 read-groups-requires c κs = search needs

@@ -1,4 +1,4 @@
--- `groups::put_groups` meets its contract. The loop's invariant: what is left, written from the place reached, gives what the whole
+-- `pack::put_groups` meets its contract. The loop's invariant: what is left, written from the place reached, gives what the whole
 -- number does, and there is room for it. The measure is what is left.
 use Prim.Native.Nat.{_+_, _^_, _≤_, _<_}
 use mathlib.Core.Path.{_≡_, refl, ap}
@@ -6,10 +6,10 @@ use native.Mathlib.Numerals.{add-one}
 use native.Mathlib.Omega.{arith}
 use lib.ListN.{length, length-set}
 use lib.Seq.{sets}
 use Rattle.groups.specs.Format.{bits, groupsOf}
 use Rattle.groups.specs.Spelling.{spelled-one, spelled-more, spelled-some}
-use Rattle.groups.proofs.put_groups.Statement.{statement}
-use Rattle.groups.proofs.put_groups.Tie as tie
+use Rattle.pack.proofs.put_groups.Statement.{statement}
+use Rattle.pack.proofs.put_groups.Tie as tie
 
 abbrev Inv-loop : tie.InvT-loop
 Inv-loop n buffer₀ at rest₀ place₀ buffer rest place =

@@ -1,8 +1,8 @@
--- `groups::fault_of` meets its contract: each arm is a clause of `faultOf`.
+-- `unpack::fault_of` meets its contract: each arm is a clause of `faultOf`.
 use borrow.Author.Needs.{needs}
 use Rattle.groups.specs.Format.{faultOf}
-use Rattle.groups.proofs.fault_of.Statement.{statement}
-use Rattle.groups.proofs.fault_of.Tie as tie
+use Rattle.unpack.proofs.fault_of.Statement.{statement}
+use Rattle.unpack.proofs.fault_of.Tie as tie
 
 enum-told : tie.Need-enum-told
 enum-told c = search needs

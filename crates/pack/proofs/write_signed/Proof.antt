@@ -1,12 +1,12 @@
--- `groups::write_signed` meets its contract: `write` at the number's code.
+-- `pack::write_signed` meets its contract: `write` at the number's code.
 use mathlib.Core.Path.{ap, _∙_}
 use denote.Ref.{now}
 use mir.Syntax.{w32}
 use mir.ValLaws.{toZ-ofZ}
 use borrow.Author.Needs.{needs}
 use Rattle.groups.specs.Format.{codeOf, writeOf}
-use Rattle.groups.proofs.write_signed.Statement.{statement}
-use Rattle.groups.proofs.write_signed.Tie as tie
+use Rattle.pack.proofs.write_signed.Statement.{statement}
+use Rattle.pack.proofs.write_signed.Tie as tie
 
 code-requires : tie.Need-code-requires
 code-requires c κs = search needs

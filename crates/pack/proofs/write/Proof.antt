@@ -1,10 +1,10 @@
--- `groups::write` meets its contract: it refuses exactly where the groups would end behind the buffer, and else leaves what `put_groups` does.
+-- `pack::write` meets its contract: it refuses exactly where the groups would end behind the buffer, and else leaves what `put_groups` does.
 use mathlib.Core.Path.{sym}
 use native.Mathlib.Omega.{arith}
 use Rattle.groups.specs.Writing.{put-all, put-none}
 use borrow.Author.Needs.{needs}
-use Rattle.groups.proofs.write.Statement.{statement}
-use Rattle.groups.proofs.write.Tie as tie
+use Rattle.pack.proofs.write.Statement.{statement}
+use Rattle.pack.proofs.write.Tie as tie
 
 length-requires : tie.Need-length-requires
 length-requires c κs = search needs

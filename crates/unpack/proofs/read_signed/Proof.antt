@@ -1,10 +1,10 @@
--- `groups::read_signed` meets its contract: a fault is handed on, and a number is taken for a code.
+-- `unpack::read_signed` meets its contract: a fault is handed on, and a number is taken for a code.
 use mir.Syntax.{w32}
 use mir.ValLaws.{toZ-ofZ}
 use Rattle.groups.specs.Format.{decoded, faultOf}
 use borrow.Author.Needs.{needs}
-use Rattle.groups.proofs.read_signed.Statement.{statement}
-use Rattle.groups.proofs.read_signed.Tie as tie
+use Rattle.unpack.proofs.read_signed.Statement.{statement}
+use Rattle.unpack.proofs.read_signed.Tie as tie
 
 read-requires : tie.Need-read-requires
 read-requires c κs = search needs

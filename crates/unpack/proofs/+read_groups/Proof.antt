@@ -1,4 +1,4 @@
--- `groups::read_groups` meets its contract, by the first byte: it ends the number, or is joined to what the call of itself reads behind it.
+-- `unpack::read_groups` meets its contract, by the first byte: it ends the number, or is joined to what the call of itself reads behind it.
 -- The measure is how many groups are left.
 use Prim.Native.Nat.{ℕ, _+_, _*_, _-_, _≤_, _<_}
 use mathlib.Core.Path.{_≡_, sym, ap, _∙_}
@@ -8,14 +8,14 @@ use denote.Ref.{now}
 use borrow.Author.Needs.{needs}
 use borrow.Fn.Kinds.{In}
 use borrow.Fn.PlainCycle.{Measures, is, falls, and}
 use Rattle.groups.specs.Format.{group, bits, readUpTo, joined, faultOf}
 use Rattle.groups.specs.ByteByByte.{holds, too-large, front-none, front-last, front-on, joins-none, joins, reads-inside}
-use Rattle.groups.proofs.fault_of.Reads as fault-of
-use Rattle.groups.proofs.read_groups.Reads as reads
-use Rattle.groups.proofs.read_groups.Kinds as kinds
-use Rattle.groups.proofs.+read_groups.Lts-read_groups as lts
-use Rattle.groups.proofs.+read_groups.{statement}
-use Rattle.groups.proofs.+read_groups.Tie.{close}
+use Rattle.unpack.proofs.fault_of.Reads as fault-of
+use Rattle.unpack.proofs.read_groups.Reads as reads
+use Rattle.unpack.proofs.read_groups.Kinds as kinds
+use Rattle.unpack.proofs.+read_groups.Lts-read_groups as lts
+use Rattle.unpack.proofs.+read_groups.{statement}
+use Rattle.unpack.proofs.+read_groups.Tie.{close}
 
 abbrev measure : Measures 1 kinds.ps ℕ
 measure κs a = a .1 .0
