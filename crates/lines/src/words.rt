@@ -1,14 +1,10 @@
-// The words of an answer, a refusal's number, and the keys of a scan.
+// The words of an answer, a refusal's number, and how many keys are listed.
 ghost use mathlib.Core.Path.{_≡_};
 ghost use mathlib.Core.List.{_∷_};
-ghost use Prim.Native.Nat.{_+_, _*_, _≤_, min};
-ghost use lib.IntN.{pos};
-ghost use lib.ListN.{length, getD};
+ghost use Prim.Native.Nat.{min};
 ghost use Rattle.shapes.specs.Numbers.{refusalNumber};
-ghost use Rattle.lines.specs.Text.{blank, answerWord, mostKeys, listedOf, keysText};
+ghost use Rattle.lines.specs.Text.{blank, answerWord, mostKeys, listedOf};
 ghost use Rattle.lines.specs.Page.{page, fill};
-ghost use Rattle.lines.specs.Lengths.{keyRoom};
-use crate::page::put_next_signed;
 use crate::page::put_text;
 use shapes::Answer;
 use shapes::Refusal;
@@ -62,32 +58,4 @@ pub fn listed(answer: Answer) -> usize
         Answer::NoRoom => 0,
         Answer::NoPhase => 0,
     }
-}
-
-// Key i from a place on; 0 past the end.
-fn key_at(found: &[i32], from: usize, i: usize) -> i32
-    ensures { λ r. ⌜ r ≡ getD (now (found .entry)) (from + i) (pos 0) ⌝ }
-{
-    if found.len() <= from {
-        return 0;
-    }
-    if found.len() - from <= i {
-        return 0;
-    }
-    found[from + i]
-}
-
-// So many keys from a place on, a blank before each.
-pub fn put_keys(found: &[i32], from: usize, n: usize, out: &mut [u8], at: usize) -> usize
-    ensures { λ r. ⌜ page r (now (out .exit)) ≡ fill (keysText (now (found .entry)) from n) (page at (now (out .entry))) ⌝ }
-    ensures { λ r. ⌜ length (keysText (now (found .entry)) from n) ≤ n * keyRoom ⌝ }
-{
-    let mut i = 0;
-    let mut place = at;
-    while i < n {
-        let key = key_at(found, from, i);
-        place = put_next_signed(key, out, place);
-        i += 1;
-    }
-    place
 }

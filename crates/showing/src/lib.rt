@@ -6,13 +6,13 @@ mod files; // what is read
 pub use files::read_all;
 pub use files::room;
 use lines::Line;
-use lines::spell;
 use playing::play;
 use reader::read_command;
 use reader::read_opening;
 use schedule::CommandReading;
 use schedule::OpeningReading;
 use shapes::Board;
+use spelling::spell;
 use tally::end_line;
 use tally::keys_place;
 use tally::no_board;

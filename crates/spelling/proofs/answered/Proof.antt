@@ -3,13 +3,13 @@ use mathlib.Core.Path.{_≡_}
 use native.Mathlib.Omega.{arith}
 use lib.ListN.{length}
 use denote.Ref.{now}
 use Rattle.lines.specs.Text.{answeredText, keysAt, listedOf}
 use Rattle.lines.specs.Page.{fills-page, fill-line, fill-word}
 use Rattle.lines.specs.Keys.{answered-line}
 use Rattle.lines.specs.Lengths.{size, answered-fits}
 use borrow.Author.Needs.{needs}
-use Rattle.lines.proofs.answered.Statement.{statement}
-use Rattle.lines.proofs.answered.Tie as tie
+use Rattle.spelling.proofs.answered.Statement.{statement}
+use Rattle.spelling.proofs.answered.Tie as tie
 
 put-number-requires : tie.Need-put-number-requires
 put-number-requires c κs = search needs

@@ -3,12 +3,12 @@ use mathlib.Core.Path.{_≡_}
 use native.Mathlib.Omega.{arith}
 use lib.ListN.{length}
 use denote.Ref.{now}
 use Rattle.lines.specs.Text.{refusedText}
 use Rattle.lines.specs.Page.{fills-page, fill-line, fill-word, fill-no-words}
 use Rattle.lines.specs.Lengths.{size, refused-fits}
 use borrow.Author.Needs.{needs}
-use Rattle.lines.proofs.refused.Statement.{statement}
-use Rattle.lines.proofs.refused.Tie as tie
+use Rattle.spelling.proofs.refused.Statement.{statement}
+use Rattle.spelling.proofs.refused.Tie as tie
 
 put-number-requires : tie.Need-put-number-requires
 put-number-requires c κs = search needs

@@ -1,9 +1,9 @@
 -- `spell` goes by the line, arm by arm.
 use Rattle.lines.specs.Text.{lineText, keysOf}
 use Rattle.lines.specs.Page.{spelt}
 use borrow.Author.Needs.{needs}
-use Rattle.lines.proofs.spell.Statement.{statement}
-use Rattle.lines.proofs.spell.Tie as tie
+use Rattle.spelling.proofs.spell.Statement.{statement}
+use Rattle.spelling.proofs.spell.Tie as tie
 
 enum-told : tie.Need-enum-told
 enum-told c = search needs

@@ -8,13 +8,13 @@ use denote.Ref.{now}
 use mir.Syntax.{w32}
 use mir.Val.{SFits}
 use mir.ValLaws.{toZ-ofZ}
 use Rattle.lines.specs.Text.{keysText}
 use Rattle.lines.specs.Page.{page, fill}
 use Rattle.lines.specs.Keys.{fill-keys, fill-no-keys}
 use Rattle.lines.specs.Lengths.{keyRoom, keys-length, no-keys-length}
 use borrow.Author.Needs.{needs}
-use Rattle.lines.proofs.words.put_keys.Statement.{statement}
-use Rattle.lines.proofs.words.put_keys.Tie as tie
+use Rattle.spelling.proofs.keys.put_keys.Statement.{statement}
+use Rattle.spelling.proofs.keys.put_keys.Tie as tie
 
 abbrev Inv-loop : tie.InvT-loop
 Inv-loop found from n out₀ at i₀ place₀ out i place = (i ≤ n) × (length out ≡ length out₀) × (fill (keysText found (from + i) (n - i)) (page place out) ≡ fill (keysText found from n) (page at out₀)) × (length (keysText found from n) ≤ i * keyRoom + length (keysText found (from + i) (n - i)))

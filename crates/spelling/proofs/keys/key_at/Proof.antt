@@ -6,8 +6,8 @@ use lib.IntN.{pos}
 use lib.ListN.{length, List·getD-eq-default}
 use denote.Ref.{now}
 use borrow.Author.Needs.{needs}
-use Rattle.lines.proofs.words.key_at.Statement.{statement}
-use Rattle.lines.proofs.words.key_at.Tie as tie
+use Rattle.spelling.proofs.keys.key_at.Statement.{statement}
+use Rattle.spelling.proofs.keys.key_at.Tie as tie
 
 returns : tie.Need-returns
 returns c =
