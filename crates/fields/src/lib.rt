@@ -1,8 +1,5 @@
 // The code of the tables: one function for each field, total on any list.
-mod words; // one word, one row
 mod keys; // keys as numbers, and back
-mod nodes; // a node's fields
-mod records; // a record's fields
 mod versions; // READCHILD
 mod workers; // a worker that holds no operation
 mod sizes; // sizes in range, tables long enough
@@ -14,7 +11,6 @@ pub use nodes::is_internal;
 pub use nodes::key_at;
 pub use nodes::key_value;
 pub use nodes::kind_at;
-pub use nodes::new_node;
 pub use nodes::phase_at;
 pub use nodes::prev_at;
 pub use nodes::rank_at;
@@ -30,7 +26,6 @@ pub use records::fillable;
 pub use records::helpable;
 pub use records::in_progress;
 pub use records::new_child_at;
-pub use records::new_record;
 pub use records::old_child_at;
 pub use records::par_at;
 pub use records::seq_at;
@@ -43,6 +38,8 @@ pub use sizes::sizes_ok;
 pub use versions::as_parent;
 pub use versions::read_child;
 pub use words::get;
+pub use words::new_node;
+pub use words::new_record;
 pub use words::put;
 pub use workers::blank;
 pub use workers::idle;

@@ -1,8 +1,8 @@
 // READCHILD (lines 43 to 48): a node's child as a phase sees it.
-use crate::nodes::child_at;
-use crate::nodes::is_internal;
-use crate::nodes::phase_at;
-use crate::nodes::prev_at;
+use nodes::child_at;
+use nodes::is_internal;
+use nodes::phase_at;
+use nodes::prev_at;
 use shapes::MaybeNode;
 use shapes::NodeNo;
 use shapes::Phase;
