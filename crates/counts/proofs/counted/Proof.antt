@@ -5,9 +5,9 @@ use native.Mathlib.Omega.{arith}
 use borrow.Author.Needs.{needs}
 use borrow.Author.Tests.{le-leb, lt-leb}
 use Rattle.laws.specs.Choice.{pick-true, pick-false}
 use Rattle.tally.specs.Playing.{mostTurns, counted}
-use Rattle.tally.proofs.counts.counted.Statement.{statement}
-use Rattle.tally.proofs.counts.counted.Tie as tie
+use Rattle.counts.proofs.counted.Statement.{statement}
+use Rattle.counts.proofs.counted.Tie as tie
 
 sub-room : tie.Need-sub-room
 sub-room c = search needs

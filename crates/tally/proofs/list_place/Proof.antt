@@ -2,8 +2,8 @@
 use native.Mathlib.Omega.{arith}
 use Rattle.tables.specs.Places.{row-fits}
 use borrow.Author.Needs.{needs}
-use Rattle.tally.proofs.telling.list_place.Statement.{statement}
-use Rattle.tally.proofs.telling.list_place.Tie as tie
+use Rattle.tally.proofs.list_place.Statement.{statement}
+use Rattle.tally.proofs.list_place.Tie as tie
 
 mul-result : tie.Need-mul-result
 mul-result c = omega (arith, row-fits (c .args .w) (c .args .n) (search needs) (search needs))

@@ -2,9 +2,9 @@
 use shapes::Outcome;
 ghost use mathlib.Core.Path.{_≡_};
 ghost use lib.ListN.{getD, set};
 ghost use Rattle.tally.specs.Playing.{counted, startedCounts};
 
-// The greatest count that is kept: no schedule comes to it (Exact).
+// The greatest count that is kept: no schedule comes to it (tally:Exact).
 const MOST_TURNS: u64 = 18_446_744_073_709_551_615;
 
 pub fn count_of(counts: [u64; 8], w: u32) -> u64

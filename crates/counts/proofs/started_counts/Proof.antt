@@ -1,9 +1,9 @@
 -- `started_counts` is `startedCounts`, by the outcome.
 use mathlib.Core.Path.{refl}
 use Rattle.tally.specs.Playing.{startedCounts}
 use borrow.Author.Needs.{needs}
-use Rattle.tally.proofs.counts.started_counts.Statement.{statement}
-use Rattle.tally.proofs.counts.started_counts.Tie as tie
+use Rattle.counts.proofs.started_counts.Statement.{statement}
+use Rattle.counts.proofs.started_counts.Tie as tie
 
 enum-told : tie.Need-enum-told
 enum-told c = search needs

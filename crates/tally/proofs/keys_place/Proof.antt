@@ -2,8 +2,8 @@
 use mathlib.Core.Path.{refl}
 use Rattle.tally.specs.Whole.{keysPlace}
 use borrow.Author.Needs.{needs}
-use Rattle.tally.proofs.telling.keys_place.Statement.{statement}
-use Rattle.tally.proofs.telling.keys_place.Tie as tie
+use Rattle.tally.proofs.keys_place.Statement.{statement}
+use Rattle.tally.proofs.keys_place.Tie as tie
 
 enum-known-line : tie.Need-enum-known-line
 enum-known-line c = search needs

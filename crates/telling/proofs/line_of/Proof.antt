@@ -1,9 +1,9 @@
 -- `line_of` is `lineOf`, by the outcome.
 use mathlib.Core.Path.{refl}
 use Rattle.tally.specs.Playing.{lineOf}
 use borrow.Author.Needs.{needs}
-use Rattle.tally.proofs.telling.line_of.Statement.{statement}
-use Rattle.tally.proofs.telling.line_of.Tie as tie
+use Rattle.telling.proofs.line_of.Statement.{statement}
+use Rattle.telling.proofs.line_of.Tie as tie
 
 enum-told : tie.Need-enum-told
 enum-told c = search needs

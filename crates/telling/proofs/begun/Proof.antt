@@ -1,8 +1,8 @@
 -- `begun`: the counts and the line of a start, each by its own function.
 use mathlib.Core.Path.{refl}
 use borrow.Author.Needs.{needs}
-use Rattle.tally.proofs.telling.begun.Statement.{statement}
-use Rattle.tally.proofs.telling.begun.Tie as tie
+use Rattle.telling.proofs.begun.Statement.{statement}
+use Rattle.telling.proofs.begun.Tie as tie
 
 started-counts-requires : tie.Need-started-counts-requires
 started-counts-requires c κs = search needs

@@ -5,8 +5,8 @@ use native.Mathlib.Omega.{arith}
 use lib.ListN.{length}
 use lib.Seq.{set-out}
 use borrow.Author.Needs.{needs}
-use Rattle.tally.proofs.counts.with_count.Statement.{statement}
-use Rattle.tally.proofs.counts.with_count.Tie as tie
+use Rattle.counts.proofs.with_count.Statement.{statement}
+use Rattle.counts.proofs.with_count.Tie as tie
 
 mul-all : tie.Need-mul-all
 mul-all c = search needs

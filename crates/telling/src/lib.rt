@@ -1,19 +1,16 @@
 // What a call's outcome leaves and prints.
-use crate::Played;
-use crate::counts::count_of;
-use crate::counts::counted;
-use crate::counts::started_counts;
-use crate::counts::with_count;
+use counts::count_of;
+use counts::counted;
+use counts::started_counts;
+use counts::with_count;
 use lines::Line;
 use shapes::Outcome;
 use shapes::Reply;
 use shapes::Run;
-use shapes::Totals;
+use tally::Played;
 ghost use mathlib.Core.Path.{_≡_};
-ghost use Prim.Native.Nat.{_*_};
 ghost use lib.ListN.{getD, set};
 ghost use Rattle.tally.specs.Playing.{counted, startedCounts, lineOf, played};
-ghost use Rattle.tally.specs.Whole.{keysPlace, endLine};
 
 fn line_of(number: u32, w: u32, outcome: Outcome, turns: u64) -> Line
     ensures { λ r. ⌜ r ≡ lineOf number w outcome turns ⌝ }
@@ -48,30 +45,4 @@ pub fn ran(number: u32, w: u32, counts: [u64; 8], run: Run) -> Played
         turns: with_count(counts, w, all),
         line: line_of(number, w, outcome, all),
     }
-}
-
-// Two numbers of 32 bits, so the product fits.
-fn list_place(w: u32, n: u32) -> usize
-    ensures { λ r. ⌜ r ≡ w * n ⌝ }
-{
-    w as usize * n as usize
-}
-
-// Where the keys that a line lists stand among the found keys.
-pub fn keys_place(totals: Totals, line: Line) -> usize
-    ensures { λ r. ⌜ r ≡ keysPlace totals line ⌝ }
-{
-    match line {
-        Line::Answered(_, w, _, _) => list_place(w, totals.n),
-        Line::Quiet => 0,
-        Line::Refused(_, _, _) => 0,
-        Line::End(_, _, _, _) => 0,
-        Line::Bad(_) => 0,
-    }
-}
-
-pub fn end_line(commands: u32, totals: Totals) -> Line
-    ensures { λ r. ⌜ r ≡ endLine commands totals ⌝ }
-{
-    Line::End(commands, totals.nodes, totals.records, totals.counter)
 }

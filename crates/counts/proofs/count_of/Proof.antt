@@ -4,8 +4,8 @@ use mathlib.Core.Path.{sym}
 use native.Mathlib.Omega.{arith}
 use lib.ListN.{length, List·getD-eq-default}
 use borrow.Author.Needs.{needs}
-use Rattle.tally.proofs.counts.count_of.Statement.{statement}
-use Rattle.tally.proofs.counts.count_of.Tie as tie
+use Rattle.counts.proofs.count_of.Statement.{statement}
+use Rattle.counts.proofs.count_of.Tie as tie
 
 mul-result : tie.Need-mul-result
 mul-result c = search needs

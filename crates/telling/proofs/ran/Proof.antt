@@ -1,8 +1,8 @@
 -- `ran`: the count is taken once, for the counts and for the line.
 use mathlib.Core.Path.{refl}
 use borrow.Author.Needs.{needs}
-use Rattle.tally.proofs.telling.ran.Statement.{statement}
-use Rattle.tally.proofs.telling.ran.Tie as tie
+use Rattle.telling.proofs.ran.Statement.{statement}
+use Rattle.telling.proofs.ran.Tie as tie
 
 count-of-requires : tie.Need-count-of-requires
 count-of-requires c κs = search needs

@@ -1,8 +1,8 @@
 -- `end_line` is `endLine`.
 use mathlib.Core.Path.{refl}
 use Rattle.tally.specs.Whole.{endLine}
-use Rattle.tally.proofs.telling.end_line.Statement.{statement}
-use Rattle.tally.proofs.telling.end_line.Tie as tie
+use Rattle.tally.proofs.end_line.Statement.{statement}
+use Rattle.tally.proofs.end_line.Tie as tie
 
 returns : tie.Need-returns
 unfolding endLine
