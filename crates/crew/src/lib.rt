@@ -1,8 +1,8 @@
 // The code that tells sound workers from spoiled ones.
+use boards::worker_of;
 use fields::between;
 use fields::count_at;
 use fields::get;
-use fields::idle;
 use homes::attempt_home;
 use homes::in_list;
 use homes::listed;
@@ -21,8 +21,6 @@ use shapes::NodeNo;
 use shapes::Operation;
 use shapes::Place;
 use shapes::Totals;
-use shapes::Worker;
-use tables::MOST_WORKERS;
 ghost use mathlib.Core.Path.{_≡_};
 ghost use mathlib.Core.Bool.{true, _&&_};
 ghost use mathlib.Core.List.{List};
@@ -34,7 +32,7 @@ ghost use Rattle.laws.specs.Tests.{every};
 ghost use Rattle.tables.specs.Names.{node};
 ghost use Rattle.tables.specs.Records.{countAt};
 ghost use Rattle.tables.specs.Fresh.{between};
-ghost use Rattle.tables.specs.World.{world, spot, idle};
+ghost use Rattle.tables.specs.World.{world, spot};
 ghost use Rattle.sound.specs.Homes.{attemptHome, listed, inList};
 ghost use Rattle.sound.specs.Sound.{usedNode, handOk, withinOk, conditionOk, listsOk, workerOk};
 
@@ -139,33 +137,19 @@ fn pending_ok(t: Totals, pending: &[u32], w: u32, count: u32) -> bool
     true
 }
 
-// Worker w; past the last there is an idle one.
-fn worker_at(workers: [Worker; 8], w: u32) -> Worker
-    ensures { λ r. ⌜ r ≡ getD workers w idle ⌝ }
-{
-    let at = w as usize;
-    if w < MOST_WORKERS {
-        workers[at]
-    } else {
-        idle()
-    }
-}
-
 // Pending and found counts are at most N, and pending nodes are used; they are looked at only if there are few.
 fn lists_ok(board: Board, pending: &[u32], w: u32) -> bool
     ensures { λ r. ⌜ ((ns rs : List ℕ) (fs : List ℤ) → r ≡ listsOk (world board ns rs (now (pending .entry)) fs) w) ⌝ }
 {
     let t = board.totals;
-    let workers = board.workers;
-    let k = worker_at(workers, w);
+    let k = worker_of(board, w);
     (k.pending <= t.n) & (k.found <= t.n) && pending_ok(t, pending, w, k.pending)
 }
 
 fn worker_ok(board: Board, records: &[u32], pending: &[u32], w: u32) -> bool
     ensures { λ r. ⌜ ((ns : List ℕ) (fs : List ℤ) → r ≡ workerOk (world board ns (now (records .entry)) (now (pending .entry)) fs) w) ⌝ }
 {
-    let workers = board.workers;
-    let k = worker_at(workers, w);
+    let k = worker_of(board, w);
     let hand = k.hand;
     let condition = k.condition;
     lists_ok(board, pending, w)

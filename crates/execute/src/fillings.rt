@@ -13,23 +13,12 @@ use tables::FLAG;
 use tables::MARK;
 ghost use mathlib.Core.Path.{_≡_};
 ghost use Rattle.tables.specs.Records.{entry};
-ghost use Rattle.sound.specs.Homes.{listed};
 ghost use Rattle.steps.specs.Execute.{insertFilling, deleteFilling, fillInsert, fillDelete, fills};
 
 // How many nodes a record lists (lines 164 and 190).
 const INSERT_LISTS: u32 = 2;
 
 const DELETE_LISTS: u32 = 4;
-
-pub fn listed(o: Kind) -> u32
-    ensures { λ n. ⌜ n ≡ listed o ⌝ }
-{
-    match o {
-        Kind::Insert => INSERT_LISTS,
-        Kind::Delete => DELETE_LISTS,
-        Kind::Find => 0,
-    }
-}
 
 // nodes[i], its old word, and MARK where it is to be marked.
 fn entry_of(x: NodeNo, u: Update, m: u32) -> Entry

@@ -2,7 +2,7 @@
 mod fillings; // line 102: what the record is filled with
 
 use crate::fillings::fills;
-pub use fillings::listed;
+use homes::listed;
 use shapes::Back;
 use shapes::Decision;
 use shapes::Effect;

@@ -7,8 +7,8 @@ use Rattle.sound.specs.Sound.{workerOk}
 use Rattle.crew.proofs.worker_ok.Statement.{statement}
 use Rattle.crew.proofs.worker_ok.Tie as tie
 
-worker-at-requires : tie.Need-worker-at-requires
-worker-at-requires c κs = search needs
+worker-of-requires : tie.Need-worker-of-requires
+worker-of-requires c κs = search needs
 
 lists-ok-requires : tie.Need-lists-ok-requires
 lists-ok-requires c κs = search needs
@@ -21,9 +21,9 @@ condition-ok-requires c κs = search needs
 
 returns : tie.Need-returns
 unfolding workerOk workerAt joined
-returns c = λ ns fs. rw (all-joined, ← c .before .before .lists-ok .ensures ns _ fs, ← c .before .before .before .before .worker-at .ensures, ← c .before .hand-ok .ensures, ← c .condition-ok .ensures) refl
+returns c = λ ns fs. rw (all-joined, ← c .before .before .lists-ok .ensures ns _ fs, ← c .before .before .before .before .worker-of .ensures, ← c .before .hand-ok .ensures, ← c .condition-ok .ensures) refl
 
 pub worker-ok-spec : {M : Type 1} → statement M
 worker-ok-spec =
     tie.close
-    (tie.spec worker-at-requires lists-ok-requires hand-ok-requires condition-ok-requires returns)
+    (tie.spec worker-of-requires lists-ok-requires hand-ok-requires condition-ok-requires returns)
