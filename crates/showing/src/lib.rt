@@ -13,9 +13,11 @@ use schedule::CommandReading;
 use schedule::OpeningReading;
 use shapes::Board;
 use spelling::spell;
+use tally::Played;
 use tally::end_line;
 use tally::keys_place;
 use tally::no_board;
+ghost use mathlib.Core.Path.{_≡_};
 ghost use Prim.Native.Nat.{_+_, _≤_};
 ghost use lib.ListN.{length};
 
@@ -43,6 +45,35 @@ fn say(out: i32, line: Line, found: &[i32], from: usize) -> bool {
     io::write_all(out, &page[..size])
 }
 
+// A command that does not read.
+fn say_unread(out: i32, which: u32, board: Board, turns: [u64; 8], found: &[i32]) -> Shown
+    ensures { λ r. ⌜ r .taken ≡ 0 ⌝ }
+{
+    let said = say(out, Line::Bad(which), found, 0);
+    Shown {
+        taken: 0,
+        said,
+        board,
+        turns,
+    }
+}
+
+// A command of so many bytes that has been played.
+fn say_played(out: i32, taken: usize, played: Played, found: &[i32]) -> Shown
+    ensures { λ r. ⌜ r .taken ≡ taken ⌝ }
+{
+    let line = played.line;
+    let board = played.board;
+    let turns = played.turns;
+    let said = say(out, line, found, keys_place(board.totals, line));
+    Shown {
+        taken,
+        said,
+        board,
+        turns,
+    }
+}
+
 // One command at the front of what is left.
 fn show_command(
     out: i32,
@@ -60,25 +91,10 @@ fn show_command(
     ensures { λ r. ⌜ at + r .taken ≤ length (now (commands .entry)) ⌝ }
 {
     let CommandReading::Read(command, taken) = read_command(&commands[at..]) else {
-        let said = say(out, Line::Bad(which), found, 0);
-        return Shown {
-            taken: 0,
-            said,
-            board,
-            turns,
-        };
+        return say_unread(out, which, board, turns, found);
     };
     let played = play(which, command, board, turns, nodes, records, pending, found);
-    let line = played.line;
-    let board = played.board;
-    let turns = played.turns;
-    let said = say(out, line, found, keys_place(board.totals, line));
-    Shown {
-        taken,
-        said,
-        board,
-        turns,
-    }
+    say_played(out, taken, played, found)
 }
 
 // The commands behind the opening, each handing on the rest, until none is left or one does not read.

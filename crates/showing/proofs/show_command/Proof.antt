@@ -27,8 +27,8 @@ enum-known-command c = search needs
 enum-told : tie.Need-enum-told
 enum-told c = search needs
 
-say-requires : tie.Need-say-requires
-say-requires c κs = search needs
+say-unread-requires : tie.Need-say-unread-requires
+say-unread-requires c κs = search needs
 
 same-length : tie.Need-same-length
 same-length c = search needs
@@ -39,11 +39,8 @@ returns c = search needs
 play-requires : tie.Need-play-requires
 play-requires c κs = search needs
 
-keys-place-requires : tie.Need-keys-place-requires
-keys-place-requires c κs = search needs
-
-say-requires-2 : tie.Need-say-requires-2
-say-requires-2 c κs = search needs
+say-played-requires : tie.Need-say-played-requires
+say-played-requires c κs = search needs
 
 same-length-2 : tie.Need-same-length-2
 same-length-2 c = search needs
@@ -58,7 +55,7 @@ same-length-5 : tie.Need-same-length-5
 same-length-5 c = search needs
 
 returns-2 : tie.Need-returns-2
-returns-2 c = let l = now (c .before .before .before .before .before .before .before .before .before .before .before .before .before .before .before .before .before .before .before .before .before .before .before .before .before .before .args .commands) in part-within l (c .before .before .before .before .before .before .before .before .before .before .before .before .before .before .before .before .before .before .before .before .before .before .before .before .before .before .args .at) _ (command-stands (take (length l - c .before .before .before .before .before .before .before .before .before .before .before .before .before .before .before .before .before .before .before .before .before .before .before .before .before .before .args .at) (drop (c .before .before .before .before .before .before .before .before .before .before .before .before .before .before .before .before .before .before .before .before .before .before .before .before .before .before .args .at) l)) _ _ (sym (c .before .before .before .before .before .before .before .before .before .before .before .before .before .before .before .before .before .before .before .before .read-command .ensures) ∙ c .before .before .before .before .before .before .before .before .before .before .before .before .before .before .before .before .before .before .command .given .1) .there) (c .before .before .before .before .before .before .before .before .before .before .before .before .before .before .before .before .before .before .before .before .before .before .before .before .before .before .pre)
+returns-2 c = let l = now (c .before .before .before .before .before .before .before .before .before .before .before .before .before .before .before .before .before .before .before .before .before .before .before .args .commands) in rw (c .say-played .ensures) (part-within l (c .before .before .before .before .before .before .before .before .before .before .before .before .before .before .before .before .before .before .before .before .before .before .before .args .at) _ (command-stands (take (length l - c .before .before .before .before .before .before .before .before .before .before .before .before .before .before .before .before .before .before .before .before .before .before .before .args .at) (drop (c .before .before .before .before .before .before .before .before .before .before .before .before .before .before .before .before .before .before .before .before .before .before .before .args .at) l)) _ _ (sym (c .before .before .before .before .before .before .before .before .before .before .before .before .before .before .before .before .before .read-command .ensures) ∙ c .before .before .before .before .before .before .before .before .before .before .before .before .before .before .before .command .given .1) .there) (c .before .before .before .before .before .before .before .before .before .before .before .before .before .before .before .before .before .before .before .before .before .before .before .pre))
 
 pub show-command-spec : {M : Type 1} → statement M
 show-command-spec =
@@ -70,12 +67,11 @@ show-command-spec =
     read-command-requires
     enum-known-command
     enum-told
-    say-requires
+    say-unread-requires
     same-length
     returns
     play-requires
-    keys-place-requires
-    say-requires-2
+    say-played-requires
     same-length-2
     same-length-3
     same-length-4
