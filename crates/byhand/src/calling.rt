@@ -1,10 +1,7 @@
-// The calls: each prints its line, what it came to, and what it left.
-use crate::boards::of_board;
+// The calls: each prints what it came to, and what it left.
 use crate::digest::of_lists;
-use crate::line::command;
-use crate::line::key;
-use crate::line::number;
-use crate::setting::worker_of;
+use crate::line::Words;
+use crate::line::signed;
 use crate::telling::say;
 use crate::telling::say_counts;
 use crate::telling::say_keys;
@@ -14,10 +11,13 @@ use crate::telling::say_outcome;
 use crate::telling::say_refusal;
 use crate::telling::say_same;
 use crate::telling::say_totals;
+use crate::workers::of_board;
 use lister::Listing;
 use shapes::Board;
 use shapes::Phase;
 use shapes::Reply;
+use shapes::Run;
+use tables::MOST_WORKERS;
 
 // What a call comes to is printed, and its board handed on.
 fn told(reply: Reply) -> Board {
@@ -26,49 +26,7 @@ fn told(reply: Reply) -> Board {
     reply.board
 }
 
-fn start(
-    line: &[u8],
-    board: Board,
-    nodes: &[u32],
-    records: &[u32],
-    pending: &[u32],
-    found: &[i32],
-) -> Reply {
-    let w = number(line, 1);
-    let a = key(line, 2);
-    match command(line) {
-        b'i' => machine::start_insert(board, w, a, nodes, records, pending, found),
-        b'd' => machine::start_delete(board, w, a, nodes, records, pending, found),
-        b'f' => machine::start_find(board, w, a, nodes, records, pending, found),
-        _ => machine::start_scan(board, w, a, key(line, 3), nodes, records, pending, found),
-    }
-}
-
-fn make(
-    line: &[u8],
-    board: Board,
-    nodes: &mut [u32],
-    records: &mut [u32],
-    pending: &mut [u32],
-    found: &mut [i32],
-) -> Board {
-    let n = number(line, 1);
-    let m = number(line, 2);
-    let p = number(line, 3);
-    told(fresh::fresh(board, n, m, p, nodes, records, pending, found))
-}
-
-fn go(
-    line: &[u8],
-    board: Board,
-    nodes: &mut [u32],
-    records: &mut [u32],
-    pending: &mut [u32],
-    found: &mut [i32],
-) -> Board {
-    let w = number(line, 1);
-    let n = number(line, 2);
-    let run = machine::run(board, w, n, nodes, records, pending, found);
+fn run_told(run: Run) -> Board {
     let outcome = run.outcome;
     say_outcome(outcome);
     say(b" after");
@@ -76,17 +34,28 @@ fn go(
     run.board
 }
 
-fn say_version(
-    line: &[u8],
+fn start(
+    words: Words,
     board: Board,
     nodes: &[u32],
     records: &[u32],
     pending: &[u32],
     found: &[i32],
-    keys: &mut [i32],
-) {
-    let i = Phase(number(line, 1));
-    match lister::list(board, i, nodes, records, pending, found, keys) {
+) -> Reply {
+    let w = words.first;
+    let a = signed(words.second);
+    let b = signed(words.third);
+    let command = words.command;
+    match command {
+        b'i' => machine::start_insert(board, w, a, nodes, records, pending, found),
+        b'd' => machine::start_delete(board, w, a, nodes, records, pending, found),
+        b'f' => machine::start_find(board, w, a, nodes, records, pending, found),
+        _ => machine::start_scan(board, w, a, b, nodes, records, pending, found),
+    }
+}
+
+fn say_version(listing: Listing, keys: &[i32]) {
+    match listing {
         Listing::Keys(n) => {
             say_keys(n);
             say_list(keys, n);
@@ -95,9 +64,28 @@ fn say_version(
     }
 }
 
+// The calls that only read the tables.
+fn ask(
+    words: Words,
+    board: Board,
+    nodes: &[u32],
+    records: &[u32],
+    pending: &[u32],
+    found: &[i32],
+    keys: &mut [i32],
+) -> Board {
+    if words.command != b'v' {
+        return told(start(words, board, nodes, records, pending, found));
+    }
+    let i = Phase(words.first);
+    let listing = lister::list(board, i, nodes, records, pending, found, keys);
+    say_version(listing, keys);
+    board
+}
+
 // The call that the line asks for.
 fn call(
-    line: &[u8],
+    words: Words,
     board: Board,
     nodes: &mut [u32],
     records: &mut [u32],
@@ -105,38 +93,59 @@ fn call(
     found: &mut [i32],
     keys: &mut [i32],
 ) -> Board {
-    match command(line) {
-        b'm' => make(line, board, nodes, records, pending, found),
-        b't' => told(machine::turn(board, number(line, 1), nodes, records, pending, found)),
-        b'g' => go(line, board, nodes, records, pending, found),
-        b'v' => {
-            say_version(line, board, nodes, records, pending, found, keys);
-            board
-        }
-        _ => told(start(line, board, nodes, records, pending, found)),
+    let a = words.first;
+    let b = words.second;
+    let c = words.third;
+    let command = words.command;
+    match command {
+        b'm' => told(fresh::fresh(board, a, b, c, nodes, records, pending, found)),
+        b't' => told(machine::turn(board, a, nodes, records, pending, found)),
+        b'g' => run_told(machine::run(board, a, b, nodes, records, pending, found)),
+        _ => ask(words, board, nodes, records, pending, found, keys),
     }
 }
 
 // ---- what it left
 
-// Whose counts are shown: the worker of the call, or the first.
-fn worker_shown(line: &[u8]) -> u32 {
-    match command(line) {
-        b'm' | b'v' => 0,
-        _ => number(line, 1),
+// Everything lent and everything kept, as numbers.
+struct Sums {
+    lent: u32,
+    kept: u32,
+}
+
+fn sums_of(
+    board: Board,
+    nodes: &[u32],
+    records: &[u32],
+    pending: &[u32],
+    found: &[i32],
+    keys: &[i32],
+) -> Sums {
+    Sums {
+        lent: of_lists(nodes, records, pending, found, keys),
+        kept: of_board(board),
     }
 }
 
-fn say_left(line: &[u8], board: Board, lent: u32, same: bool) {
+// Whose counts are shown: the worker of the call, or the first.
+fn worker_shown(words: Words) -> u32 {
+    let command = words.command;
+    match command {
+        b'm' | b'v' => 0,
+        _ => words.first % MOST_WORKERS,
+    }
+}
+
+fn say_left(words: Words, board: Board, before: Sums, after: Sums) {
     say_totals(board.totals);
-    say_counts(worker_of(board, worker_shown(line)));
+    say_counts(boards::worker_of(board, worker_shown(words)));
     say(b";");
-    say_number(lent);
-    say_same(same);
+    say_number(after.lent);
+    say_same((before.lent == after.lent) & (before.kept == after.kept));
 }
 
 pub fn call_and_tell(
-    line: &[u8],
+    words: Words,
     board: Board,
     nodes: &mut [u32],
     records: &mut [u32],
@@ -144,13 +153,9 @@ pub fn call_and_tell(
     found: &mut [i32],
     keys: &mut [i32],
 ) -> Board {
-    let lent = of_lists(nodes, records, pending, found, keys);
-    let kept = of_board(board);
-    say(line);
-    say(b" =");
-    let after = call(line, board, nodes, records, pending, found, keys);
-    let left = of_lists(nodes, records, pending, found, keys);
-    let same = lent == left && kept == of_board(after);
-    say_left(line, after, left, same);
-    after
+    let before = sums_of(board, nodes, records, pending, found, keys);
+    let left = call(words, board, nodes, records, pending, found, keys);
+    let after = sums_of(left, nodes, records, pending, found, keys);
+    say_left(words, left, before, after);
+    left
 }

@@ -1,9 +1,8 @@
 // One line obeyed, on what is kept and what is lent.
 use crate::calling::call_and_tell;
-use crate::line::command;
-use crate::line::number;
-use crate::lists::set_word;
-use crate::lists::wash;
+use crate::line::Words;
+use crate::line::words_of;
+use crate::lists::set_lists;
 use crate::setting::set_board;
 use crate::telling::say;
 use shapes::Board;
@@ -24,14 +23,17 @@ pub struct Desk {
     pub lent: Lent,
 }
 
-fn lent_of(line: &[u8]) -> Lent {
-    Lent {
-        nodes: number(line, 1),
-        records: number(line, 2),
-        pending: number(line, 3),
-        found: number(line, 4),
-        keys: number(line, 5),
+fn lent_after(words: Words, old: Lent) -> Lent {
+    if words.command == b'l' {
+        return Lent {
+            nodes: words.first,
+            records: words.second,
+            pending: words.third,
+            found: words.fourth,
+            keys: words.fifth,
+        };
     }
+    old
 }
 
 // No more than there is.
@@ -62,18 +64,39 @@ fn no_board() -> Board {
 // Nothing is lent, and no table made.
 pub fn bare_desk() -> Desk {
     let board = no_board();
-    let lent = lent_of(b"");
+    let lent = Lent {
+        nodes: 0,
+        records: 0,
+        pending: 0,
+        found: 0,
+        keys: 0,
+    };
     Desk { board, lent }
 }
 
-fn say_remark(line: &[u8]) {
-    say(line);
-    say(b"\n");
+// Every other letter begins a call.
+fn is_call(command: u8) -> bool {
+    match command {
+        b'#' | b'l' | b'w' | b'n' | b'r' | b'p' | b'b' | b'o' | b'h' | b'c' => false,
+        _ => true,
+    }
+}
+
+// A remark and a call are printed as they stand.
+fn say_line(line: &[u8], command: u8) {
+    if command == b'#' {
+        say(line);
+        say(b"\n");
+    }
+    if is_call(command) {
+        say(line);
+        say(b" =");
+    }
 }
 
 // A line on what is lent.
 fn obey_on(
-    line: &[u8],
+    words: Words,
     board: Board,
     nodes: &mut [u32],
     records: &mut [u32],
@@ -81,22 +104,11 @@ fn obey_on(
     found: &mut [i32],
     keys: &mut [i32],
 ) -> Board {
-    match command(line) {
-        b'#' => {
-            say_remark(line);
-            board
-        }
-        b'w' => {
-            wash(number(line, 1), nodes, records, pending, found, keys);
-            board
-        }
-        b'n' | b'r' | b'p' => {
-            set_word(line, nodes, records, pending);
-            board
-        }
-        b'b' | b'o' | b'h' | b'c' => set_board(line, board),
-        _ => call_and_tell(line, board, nodes, records, pending, found, keys),
+    if is_call(words.command) {
+        return call_and_tell(words, board, nodes, records, pending, found, keys);
     }
+    set_lists(words, nodes, records, pending, found, keys);
+    set_board(words, board)
 }
 
 pub fn obey(
@@ -108,21 +120,17 @@ pub fn obey(
     found: &mut [i32],
     keys: &mut [i32],
 ) -> Desk {
+    let words = words_of(line);
+    say_line(line, words.command);
     let before = desk.board;
-    let lent = desk.lent;
-    if command(line) == b'l' {
-        return Desk {
-            board: before,
-            lent: lent_of(line),
-        };
-    }
+    let lent = lent_after(words, desk.lent);
     let a = part(lent.nodes, nodes.len());
     let b = part(lent.records, records.len());
     let c = part(lent.pending, pending.len());
     let d = part(lent.found, found.len());
     let e = part(lent.keys, keys.len());
     let board = obey_on(
-        line,
+        words,
         before,
         &mut nodes[..a],
         &mut records[..b],

@@ -3,6 +3,16 @@ use shapes::Key;
 ghost use Prim.Native.Nat.{_≤_};
 ghost use lib.ListN.{length};
 
+// A line taken apart.
+pub struct Words {
+    pub command: u8,
+    pub first: u32,
+    pub second: u32,
+    pub third: u32,
+    pub fourth: u32,
+    pub fifth: u32,
+}
+
 // A number that is being read: the spaces passed so far, its digits so far, and whether a minus was met.
 struct Reading {
     spaces: u32,
@@ -67,7 +77,7 @@ fn as_word(digits: u32, below: bool) -> u32 {
 }
 
 // The number behind so many spaces; 0 where there is none.
-pub fn number(line: &[u8], which: u32) -> u32 {
+fn number(line: &[u8], which: u32) -> u32 {
     let mut reading = Reading {
         spaces: 0,
         digits: 0,
@@ -86,8 +96,15 @@ pub fn signed(word: u32) -> i32 {
     fields::number_of(Key(((word as u64 + HALF) % ALL) as u32))
 }
 
-pub fn key(line: &[u8], which: u32) -> i32 {
-    signed(number(line, which))
+pub fn words_of(line: &[u8]) -> Words {
+    Words {
+        command: command(line),
+        first: number(line, 1),
+        second: number(line, 2),
+        third: number(line, 3),
+        fourth: number(line, 4),
+        fifth: number(line, 5),
+    }
 }
 
 // Where the line that begins at `start` ends.

@@ -1,6 +1,5 @@
 // What is written into the lent lists by hand.
-use crate::line::command;
-use crate::line::number;
+use crate::line::Words;
 use crate::line::signed;
 use tables::NODE_WIDTH;
 use tables::RECORD_WIDTH;
@@ -21,37 +20,55 @@ fn wash_keys(list: &mut [i32], v: i32) {
     }
 }
 
-fn in_nodes(x: u32, f: u32) -> usize {
-    x as usize * NODE_WIDTH as usize + f as usize
+// Where in its list the line sets a word.
+fn spot(words: Words) -> usize {
+    let x = words.first as usize;
+    let f = words.second as usize;
+    let command = words.command;
+    match command {
+        b'n' => x * NODE_WIDTH as usize + f,
+        b'r' => x * RECORD_WIDTH as usize + f,
+        _ => x,
+    }
 }
 
-fn in_records(r: u32, f: u32) -> usize {
-    r as usize * RECORD_WIDTH as usize + f as usize
+// A place of the pending lists has no fields, so its word stands a word earlier.
+fn word(words: Words) -> u32 {
+    if words.command == b'p' {
+        return words.second;
+    }
+    words.third
 }
 
-pub fn wash(
-    v: u32,
+// `own` is the command that sets a word of this list; past the end nothing is written.
+fn set_words(words: Words, own: u8, list: &mut [u32]) {
+    if words.command == b'w' {
+        wash_words(list, words.first);
+        return;
+    }
+    if words.command == own {
+        fields::put(list, spot(words), word(words));
+    }
+}
+
+fn set_keys(words: Words, list: &mut [i32]) {
+    if words.command == b'w' {
+        wash_keys(list, signed(words.first));
+    }
+}
+
+// What the line writes into the lists; other lines write nothing there.
+pub fn set_lists(
+    words: Words,
     nodes: &mut [u32],
     records: &mut [u32],
     pending: &mut [u32],
     found: &mut [i32],
     keys: &mut [i32],
 ) {
-    wash_words(nodes, v);
-    wash_words(records, v);
-    wash_words(pending, v);
-    wash_keys(found, signed(v));
-    wash_keys(keys, signed(v));
-}
-
-// One word of a node, of a record or of the pending lists; past the end nothing is written.
-pub fn set_word(line: &[u8], nodes: &mut [u32], records: &mut [u32], pending: &mut [u32]) {
-    let x = number(line, 1);
-    let f = number(line, 2);
-    let v = number(line, 3);
-    match command(line) {
-        b'n' => fields::put(nodes, in_nodes(x, f), v),
-        b'r' => fields::put(records, in_records(x, f), v),
-        _ => fields::put(pending, x as usize, f),
-    }
+    set_words(words, b'n', nodes);
+    set_words(words, b'r', records);
+    set_words(words, b'p', pending);
+    set_keys(words, found);
+    set_keys(words, keys);
 }

@@ -18,7 +18,7 @@
 mod line; // the words of a line
 mod places; // places by code
 mod digest; // everything lent as a number
-mod boards; // everything kept as a number
+mod workers; // everything kept as a number
 mod setting; // the board by hand
 mod lists; // the lists by hand
 mod telling; // what is printed

@@ -1,5 +1,6 @@
 // Places by code: the line of the report; 67 is line 66 on gp's word, 185 and 186 copy the left and the right child.
 // Inside VALIDATELINK a thousand times its line and the step's, inside HELP ten times the step's line and where it returns to.
+use crate::digest::stir;
 use shapes::Back;
 use shapes::HelpStep;
 use shapes::Link;
@@ -90,9 +91,9 @@ pub fn place_of(code: u32) -> Place {
     bare_place_of(code)
 }
 
-// ---- and back, each part by itself
+// ---- and back: every place has a code of its own
 
-pub fn link_code(link: Link) -> u32 {
+fn link_code(link: Link) -> u32 {
     match link {
         Link::Leaf64 => 64,
         Link::Parent65 => 65,
@@ -102,7 +103,7 @@ pub fn link_code(link: Link) -> u32 {
     }
 }
 
-pub fn link_step_code(step: LinkStep) -> u32 {
+fn link_step_code(step: LinkStep) -> u32 {
     match step {
         LinkStep::Word52 => 52,
         LinkStep::State53 => 53,
@@ -110,7 +111,7 @@ pub fn link_step_code(step: LinkStep) -> u32 {
     }
 }
 
-pub fn help_step_code(step: HelpStep) -> u32 {
+fn help_step_code(step: HelpStep) -> u32 {
     match step {
         HelpStep::Counter111 => 111,
         HelpStep::Abort112 => 112,
@@ -126,10 +127,36 @@ pub fn help_step_code(step: HelpStep) -> u32 {
     }
 }
 
-pub fn back_code(back: Back) -> u32 {
+fn back_code(back: Back) -> u32 {
     match back {
         Back::Own => 1,
         Back::Again => 2,
         Back::Node => 3,
+    }
+}
+
+pub fn place_code(q: Place) -> u32 {
+    match q {
+        Place::Counter74 => 74,
+        Place::Search39 => 39,
+        Place::Link(a, s) => stir(link_code(a), link_step_code(s)),
+        Place::Word66 => 66,
+        Place::Grand66 => 67,
+        Place::Leaf164 => 164,
+        Place::Sibling182 => 182,
+        Place::CopyLeft => 185,
+        Place::CopyRight => 186,
+        Place::Word189 => 189,
+        Place::Leaf190 => 190,
+        Place::Frozen97 => 97,
+        Place::State98 => 98,
+        Place::Freeze103 => 103,
+        Place::Help(s, b) => stir(help_step_code(s), back_code(b)),
+        Place::Counter130 => 130,
+        Place::Bump131 => 131,
+        Place::Word139 => 139,
+        Place::State140 => 140,
+        Place::Child141 => 141,
+        Place::Left144 => 144,
     }
 }

@@ -1,7 +1,6 @@
 // What is set by hand: totals, a worker's condition, one field of its hand, its counts.
-use crate::line::command;
-use crate::line::key;
-use crate::line::number;
+use crate::line::Words;
+use crate::line::signed;
 use crate::places::place_of;
 use shapes::Board;
 use shapes::Condition;
@@ -14,9 +13,7 @@ use shapes::RecordNo;
 use shapes::Totals;
 use shapes::Update;
 use shapes::Worker;
-
-// A board has so many workers, P of them in use.
-const WORKERS: u32 = 8;
+use tables::MOST_WORKERS;
 
 fn new_if(chosen: bool, new: u32, old: u32) -> u32 {
     if chosen {
@@ -93,77 +90,53 @@ fn condition_of(kind: u32, place: u32, a: i32, b: i32) -> Condition {
     }
 }
 
-pub fn worker_of(board: Board, w: u32) -> Worker {
-    let workers = board.workers;
-    let at = (w % WORKERS) as usize;
-    workers[at]
+fn condition_after(words: Words, old: Condition) -> Condition {
+    if words.command == b'o' {
+        let low = signed(words.fourth);
+        return condition_of(words.second, words.third, low, signed(words.fifth));
+    }
+    old
 }
 
-fn with_worker(board: Board, w: u32, k: Worker) -> Board {
-    let totals = board.totals;
-    let mut workers = board.workers;
-    let at = (w % WORKERS) as usize;
-    workers[at] = k;
-    Board { totals, workers }
+fn hand_after(words: Words, old: Locals) -> Locals {
+    if words.command == b'h' {
+        return with_field(old, words.second, words.third);
+    }
+    old
+}
+
+fn worker_after(words: Words, k: Worker) -> Worker {
+    let counts = words.command == b'c';
+    let condition = k.condition;
+    let hand = k.hand;
+    Worker {
+        condition: condition_after(words, condition),
+        hand: hand_after(words, hand),
+        pending: new_if(counts, words.second, k.pending),
+        found: new_if(counts, words.third, k.found),
+    }
 }
 
 // ---- a line of the script
 
-fn set_total(line: &[u8], board: Board) -> Board {
+fn set_total(words: Words, board: Board) -> Board {
     let workers = board.workers;
-    let totals = with_total(board.totals, number(line, 1), number(line, 2));
+    let totals = with_total(board.totals, words.first, words.second);
     Board { totals, workers }
 }
 
-fn set_operation(line: &[u8], board: Board) -> Board {
-    let w = number(line, 1);
-    let k = worker_of(board, w);
-    let hand = k.hand;
-    let condition = condition_of(number(line, 2), number(line, 3), key(line, 4), key(line, 5));
-    let worker = Worker {
-        condition,
-        hand,
-        pending: k.pending,
-        found: k.found,
-    };
-    with_worker(board, w, worker)
-}
-
-fn set_hand(line: &[u8], board: Board) -> Board {
-    let w = number(line, 1);
-    let k = worker_of(board, w);
-    let condition = k.condition;
-    let hand = with_field(k.hand, number(line, 2), number(line, 3));
-    let worker = Worker {
-        condition,
-        hand,
-        pending: k.pending,
-        found: k.found,
-    };
-    with_worker(board, w, worker)
-}
-
-fn set_counts(line: &[u8], board: Board) -> Board {
-    let w = number(line, 1);
-    let k = worker_of(board, w);
-    let condition = k.condition;
-    let hand = k.hand;
-    let worker = Worker {
-        condition,
-        hand,
-        pending: number(line, 2),
-        found: number(line, 3),
-    };
-    with_worker(board, w, worker)
+fn set_worker(words: Words, board: Board) -> Board {
+    let w = words.first % MOST_WORKERS;
+    let k = worker_after(words, boards::worker_of(board, w));
+    boards::with_worker(board, board.totals, w, k)
 }
 
 // What the line sets on the board; other lines set nothing there.
-pub fn set_board(line: &[u8], board: Board) -> Board {
-    match command(line) {
-        b'b' => set_total(line, board),
-        b'o' => set_operation(line, board),
-        b'h' => set_hand(line, board),
-        b'c' => set_counts(line, board),
+pub fn set_board(words: Words, board: Board) -> Board {
+    let command = words.command;
+    match command {
+        b'b' => set_total(words, board),
+        b'o' | b'h' | b'c' => set_worker(words, board),
         _ => board,
     }
 }

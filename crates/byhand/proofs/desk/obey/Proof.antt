@@ -6,14 +6,14 @@ use borrow.Author.Needs.{needs}
 use Rattle.byhand.proofs.desk.obey.Statement.{statement}
 use Rattle.byhand.proofs.desk.obey.Tie as tie
 
-command-requires : tie.Need-command-requires
-command-requires c κs = search needs
+words-of-requires : tie.Need-words-of-requires
+words-of-requires c κs = search needs
 
-lent-of-requires : tie.Need-lent-of-requires
-lent-of-requires c κs = search needs
+say-line-requires : tie.Need-say-line-requires
+say-line-requires c κs = search needs
 
-returns : tie.Need-returns
-returns c = search needs
+lent-after-requires : tie.Need-lent-after-requires
+lent-after-requires c κs = search needs
 
 part-requires : tie.Need-part-requires
 part-requires c κs = search needs
@@ -78,16 +78,16 @@ same-length-4 c = search needs
 same-length-5 : tie.Need-same-length-5
 same-length-5 c = search needs
 
-returns-2 : tie.Need-returns-2
-returns-2 c = search needs
+returns : tie.Need-returns
+returns c = search needs
 
 pub obey-spec : {M : Type 1} → statement M
 obey-spec =
     tie.close
     (tie.spec
-    command-requires
-    lent-of-requires
-    returns
+    words-of-requires
+    say-line-requires
+    lent-after-requires
     part-requires
     part-requires-2
     part-requires-3
@@ -109,4 +109,4 @@ obey-spec =
     same-length-3
     same-length-4
     same-length-5
-    returns-2)
+    returns)

@@ -1,11 +1,9 @@
 // Everything kept on the board, stirred into one number.
 use crate::digest::stir;
-use crate::places::back_code;
-use crate::places::help_step_code;
-use crate::places::link_code;
-use crate::places::link_step_code;
+use crate::places::place_code;
 use shapes::Board;
 use shapes::Condition;
+use shapes::Key;
 use shapes::Locals;
 use shapes::MaybeNode;
 use shapes::Operation;
@@ -36,49 +34,17 @@ fn stir_hand(sum: u32, v: Locals) -> u32 {
     )
 }
 
-fn bare_code(q: Place) -> u32 {
-    match q {
-        Place::Counter74 => 74,
-        Place::Search39 => 39,
-        Place::Link(a, s) => 1,
-        Place::Word66 => 66,
-        Place::Grand66 => 67,
-        Place::Leaf164 => 164,
-        Place::Sibling182 => 182,
-        Place::CopyLeft => 185,
-        Place::CopyRight => 186,
-        Place::Word189 => 189,
-        Place::Leaf190 => 190,
-        Place::Frozen97 => 97,
-        Place::State98 => 98,
-        Place::Freeze103 => 103,
-        Place::Help(s, b) => 2,
-        Place::Counter130 => 130,
-        Place::Bump131 => 131,
-        Place::Word139 => 139,
-        Place::State140 => 140,
-        Place::Child141 => 141,
-        Place::Left144 => 144,
-    }
-}
-
-fn stir_place(sum: u32, q: Place) -> u32 {
-    let all = stir(sum, bare_code(q));
-    if let Place::Link(a, s) = q {
-        return stir(stir(all, link_code(a)), link_step_code(s));
-    }
-    if let Place::Help(s, b) = q {
-        return stir(stir(all, help_step_code(s)), back_code(b));
-    }
-    all
+// What a worker is at: kind, keys, place. All but a scan have one key, which goes in twice.
+fn stir_task(sum: u32, kind: u32, a: Key, b: Key, q: Place) -> u32 {
+    stir(stir(stir(stir(sum, kind), a.0), b.0), place_code(q))
 }
 
 fn stir_operation(sum: u32, o: Operation) -> u32 {
     match o {
-        Operation::Insert(k, q) => stir_place(stir(stir(sum, 1), k.0), q),
-        Operation::Delete(k, q) => stir_place(stir(stir(sum, 2), k.0), q),
-        Operation::Find(k, q) => stir_place(stir(stir(sum, 3), k.0), q),
-        Operation::Scan(a, b, q) => stir_place(stir(stir(stir(sum, 4), a.0), b.0), q),
+        Operation::Insert(k, q) => stir_task(sum, 1, k, k, q),
+        Operation::Delete(k, q) => stir_task(sum, 2, k, k, q),
+        Operation::Find(k, q) => stir_task(sum, 3, k, k, q),
+        Operation::Scan(a, b, q) => stir_task(sum, 4, a, b, q),
     }
 }
 

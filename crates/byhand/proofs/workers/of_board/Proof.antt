@@ -1,8 +1,8 @@
--- `byhand::boards::of_board` is safe and ends: the measure is how many workers are left.
+-- `byhand::workers::of_board` is safe and ends: the measure is how many workers are left.
 use Prim.Native.Nat.{_-_}
 use borrow.Author.Needs.{needs}
-use Rattle.byhand.proofs.boards.of_board.Statement.{statement}
-use Rattle.byhand.proofs.boards.of_board.Tie as tie
+use Rattle.byhand.proofs.workers.of_board.Statement.{statement}
+use Rattle.byhand.proofs.workers.of_board.Tie as tie
 
 abbrev Inv-loop : tie.InvT-loop
 Inv-loop workers all₀ w₀ all w = Unit
