@@ -1,2 +1,2 @@
-pub mod Numbers
-pub mod Buffers
+pub mod Signs
+pub mod InFront

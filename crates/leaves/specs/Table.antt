@@ -1,13 +1,11 @@
--- What the table's bytes stand for, and what is known of an input that was read.
+-- What the table's bytes stand for.
 use mathlib.Core.List.{List, _++_}
-use Prim.Native.Nat.{ℕ, _+_, _*_, _<_}
+use Prim.Native.Nat.{ℕ, _+_, _*_}
 use lib.Dec.{ltb}
 use lib.IntN.{ℤ, pos, _-ℤ_}
 use lib.ListN.{getD, take, drop}
 use Rattle.laws.specs.Choice.{pick}
 use Rattle.groups.specs.Format.{Left, left, writeOf}
-use Rattle.leaves.specs.declared.Input.{Input}
-use Rattle.leaves.specs.declared.Input.the-variants.{Whole, TooLong, Unreadable}
 
 -- four bytes, lowest first
 abbrev pub wordOf : ℕ → ℕ → ℕ → ℕ → ℕ
@@ -24,9 +22,3 @@ twosComplement word = pick (ltb word 2147483648) (pos word) (pos word -ℤ pos 4
 -- a number written as if the buffer had only so much room: what stands behind that stays
 unfoldable pub writeInFront : ℕ → List ℕ → ℕ → ℕ → Left
 writeInFront n buffer at room = let front = writeOf n (take room buffer) at in left (front .answer) (front .buffer ++ drop room buffer)
-
--- an input that was read whole ends before its buffer does
-abbrev pub Within : Input → ℕ → Type 0
-Within (Whole size) room = size < room
-Within TooLong room = Unit
-Within Unreadable room = Unit

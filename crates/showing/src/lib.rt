@@ -1,10 +1,9 @@
 // A schedule played on tables of the largest sizes, its lines written out one by one.
 //
 // What is written cannot be said in a contract: the logic has no word for it. All else is a proved function of a library.
-mod files; // what is read
-
-pub use files::read_all;
-pub use files::room;
+use input::Input;
+use input::read_all;
+use input::room;
 use lines::Line;
 use playing::play;
 use reader::read_command;
@@ -20,12 +19,6 @@ use tally::no_board;
 ghost use mathlib.Core.Path.{_≡_};
 ghost use Prim.Native.Nat.{_+_, _≤_};
 ghost use lib.ListN.{length};
-
-// How a reading ended: with so many bytes, or not at all.
-pub enum Input {
-    Came(usize),
-    Unreadable,
-}
 
 // What became of a command: its bytes, or none where the evening ended with it; and whether its line was written.
 struct Shown {

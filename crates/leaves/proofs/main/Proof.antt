@@ -1,27 +1,24 @@
--- `leaves::main` is safe: what it shows is a part of its buffer, since an input that was read whole ends within it.
+-- `leaves::main` is safe: the table that came stands within its room.
 use mathlib.Core.Path.{sym}
-use Prim.Native.Nat.{_≤_, _<_}
-use native.Mathlib.Omega.{arith}
+use Prim.Native.Nat.{_≤_}
 use lib.ListN.{length}
 use lib.Seq.{length-take-le}
 use borrow.Author.Needs.{needs}
 use Rattle.leaves.proofs.main.Statement.{statement}
 use Rattle.leaves.proofs.main.Tie as tie
 
--- where the input was read whole
-fits : (c : tie.After-known-told) → c .before .size .given .0 .0 ≤ length (c .before .before .before .before .read-input .last .0)
-fits c =
-    let ends : c .before .size .given .0 .0 < length (c .before .before .before .before .read-input .last .0) = rw (c .before .size .given .1) at (c .before .before .before .before .read-input .ensures) in
-    omega arith
+-- where the table came
+fits : (c : tie.After-known-told) → c .before .size .given .0 .0 ≤ length (c .before .before .before .before .read-all .last .1 .0)
+fits c = rw (c .before .size .given .1) at (c .before .before .before .before .read-all .ensures)
 
-large-buffer-requires : tie.Need-large-buffer-requires
-large-buffer-requires c κs = search needs
+room-requires : tie.Need-room-requires
+room-requires c κs = search needs
 
-slice-aggregate-read-input : tie.Need-slice-aggregate-read-input
-slice-aggregate-read-input c = search needs
+slice-aggregate-read-all : tie.Need-slice-aggregate-read-all
+slice-aggregate-read-all c = search needs
 
-read-input-requires : tie.Need-read-input-requires
-read-input-requires c κs = search needs
+read-all-requires : tie.Need-read-all-requires
+read-all-requires c κs = search needs
 
 enum-known-size : tie.Need-enum-known-size
 enum-known-size c = search needs
@@ -29,11 +26,11 @@ enum-known-size c = search needs
 array-share-prefix-table : tie.Need-array-share-prefix-table
 array-share-prefix-table c = fits c
 
-slice-aggregate-show-table : tie.Need-slice-aggregate-show-table
-slice-aggregate-show-table c = sym (length-take-le _ _ (fits (c .before)))
+slice-aggregate-show-input : tie.Need-slice-aggregate-show-input
+slice-aggregate-show-input c = sym (length-take-le _ _ (fits (c .before)))
 
-show-table-requires : tie.Need-show-table-requires
-show-table-requires c κs = search needs
+show-input-requires : tie.Need-show-input-requires
+show-input-requires c κs = search needs
 
 enum-told : tie.Need-enum-told
 enum-told c = search needs
@@ -44,41 +41,25 @@ slice-aggregate-say c = search needs
 say-requires : tie.Need-say-requires
 say-requires c κs = search needs
 
-enum-told-2 : tie.Need-enum-told-2
-enum-told-2 c = search needs
-
-slice-aggregate-say-2 : tie.Need-slice-aggregate-say-2
-slice-aggregate-say-2 c = search needs
-
-say-requires-2 : tie.Need-say-requires-2
-say-requires-2 c κs = search needs
-
 returns : tie.Need-returns
 returns c = search needs
 
 returns-2 : tie.Need-returns-2
 returns-2 c = search needs
 
-returns-3 : tie.Need-returns-3
-returns-3 c = search needs
-
 pub main-spec : {M : Type 1} → statement M
 main-spec =
     tie.close
     (tie.spec
-    large-buffer-requires
-    slice-aggregate-read-input
-    read-input-requires
+    room-requires
+    slice-aggregate-read-all
+    read-all-requires
     enum-known-size
     array-share-prefix-table
-    slice-aggregate-show-table
-    show-table-requires
+    slice-aggregate-show-input
+    show-input-requires
     enum-told
     slice-aggregate-say
     say-requires
-    enum-told-2
-    slice-aggregate-say-2
-    say-requires-2
     returns
-    returns-2
-    returns-3)
+    returns-2)

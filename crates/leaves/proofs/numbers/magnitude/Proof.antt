@@ -2,9 +2,9 @@
 use mir.Syntax.{w32}
 use mir.ValLaws.{toZ-ofZ}
 use borrow.Author.Needs.{needs}
-use Rattle.leaves.proofs.Numbers.{half-code}
-use Rattle.leaves.proofs.magnitude.Statement.{statement}
-use Rattle.leaves.proofs.magnitude.Tie as tie
+use Rattle.leaves.proofs.Signs.{half-code}
+use Rattle.leaves.proofs.numbers.magnitude.Statement.{statement}
+use Rattle.leaves.proofs.numbers.magnitude.Tie as tie
 
 code-requires : tie.Need-code-requires
 code-requires c κs = search needs

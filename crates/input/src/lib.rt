@@ -1,8 +1,13 @@
 // What is read: a file to its end, or as much as shows that it is too long.
-use crate::Input;
 ghost use mathlib.Core.Path.{_≡_};
 ghost use lib.ListN.{length};
-ghost use Rattle.showing.specs.Input.{Within};
+ghost use Rattle.input.specs.Input.{Within};
+
+// How a reading ended: with so many bytes, or not at all.
+pub enum Input {
+    Came(usize),
+    Unreadable,
+}
 
 // One byte more than the longest schedule, so that a longer one shows.
 const ROOM: usize = 65_537;

@@ -4,10 +4,10 @@ use mir.Syntax.{w32}
 use mir.ValLaws.{toZ-ofZ}
 use Rattle.groups.specs.Format.{codeOf}
 use Rattle.groups.specs.Spelling.{one-to-five}
-use Rattle.leaves.proofs.Buffers.{in-front}
+use Rattle.leaves.proofs.InFront.{in-front}
 use borrow.Author.Needs.{needs}
-use Rattle.leaves.proofs.spell_signed.Statement.{statement}
-use Rattle.leaves.proofs.spell_signed.Tie as tie
+use Rattle.leaves.proofs.buffers.spell_signed.Statement.{statement}
+use Rattle.leaves.proofs.buffers.spell_signed.Tie as tie
 
 write-signed-requires : tie.Need-write-signed-requires
 write-signed-requires c κs = search needs

@@ -1,10 +1,10 @@
 -- `leaves::spell` meets its contract: at most five groups fit into eight bytes.
 use native.Mathlib.Omega.{arith}
 use Rattle.groups.specs.Spelling.{one-to-five}
-use Rattle.leaves.proofs.Buffers.{in-front}
+use Rattle.leaves.proofs.InFront.{in-front}
 use borrow.Author.Needs.{needs}
-use Rattle.leaves.proofs.spell.Statement.{statement}
-use Rattle.leaves.proofs.spell.Tie as tie
+use Rattle.leaves.proofs.buffers.spell.Statement.{statement}
+use Rattle.leaves.proofs.buffers.spell.Tie as tie
 
 write-requires : tie.Need-write-requires
 write-requires c κs = search needs

@@ -2,8 +2,8 @@
 use Prim.Native.Nat.{_-_}
 use lib.ListN.{length}
 use borrow.Author.Needs.{needs}
-use Rattle.leaves.proofs.say_bytes.Statement.{statement}
-use Rattle.leaves.proofs.say_bytes.Tie as tie
+use Rattle.leaves.proofs.telling.say_bytes.Statement.{statement}
+use Rattle.leaves.proofs.telling.say_bytes.Tie as tie
 
 abbrev Inv-loop : tie.InvT-loop
 Inv-loop bytes i₀ i = Unit

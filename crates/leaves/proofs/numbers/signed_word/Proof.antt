@@ -7,9 +7,9 @@ use mir.Syntax.{w32, w64}
 use mir.Val.{toZ, ofZ}
 use mir.ValLaws.{toZ-ofZ, toZ-pos}
 use borrow.Author.Needs.{needs}
-use Rattle.leaves.proofs.Numbers.{less-words, word-natural, word-negative}
-use Rattle.leaves.proofs.signed_word.Statement.{statement}
-use Rattle.leaves.proofs.signed_word.Tie as tie
+use Rattle.leaves.proofs.Signs.{less-words, word-natural, word-negative}
+use Rattle.leaves.proofs.numbers.signed_word.Statement.{statement}
+use Rattle.leaves.proofs.numbers.signed_word.Tie as tie
 
 -- the negative number, as it is computed and as the cast reads it
 computed : (c : tie.Else1) → toZ w64 (c .before .args .word) -ℤ pos 4294967296 ≡ negsuc (4294967295 - c .before .args .word)

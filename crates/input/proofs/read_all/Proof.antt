@@ -1,16 +1,16 @@
--- `leaves::read_input` meets its contract: the bytes read stand within the buffer, which keeps its length. The measure is the room left.
+-- `read_all` meets its contract: the bytes read stand within the buffer, which keeps its length. The measure is the room left.
 use mathlib.Core.Path.{_≡_}
 use Prim.Native.Nat.{_-_, _≤_}
 use lib.ListN.{length}
 use borrow.Author.Needs.{needs}
-use Rattle.leaves.proofs.read_input.Statement.{statement}
-use Rattle.leaves.proofs.read_input.Tie as tie
+use Rattle.input.proofs.read_all.Statement.{statement}
+use Rattle.input.proofs.read_all.Tie as tie
 
 abbrev Inv-loop : tie.InvT-loop
-Inv-loop buffer₀ done₀ buffer done = (done ≤ length buffer) × (length buffer ≡ length buffer₀)
+Inv-loop from buffer₀ done₀ buffer done = (done ≤ length buffer) × (length buffer ≡ length buffer₀)
 
 abbrev μ-loop : tie.MeasureT-loop
-μ-loop buffer₀ done₀ buffer done = length buffer - done
+μ-loop from buffer₀ done₀ buffer done = length buffer - done
 
 loop-holds : tie.Need-loop-holds Inv-loop μ-loop
 loop-holds c = search needs
@@ -66,8 +66,8 @@ same-length-3 c = search needs
 returns-3 : tie.Need-returns-3 Inv-loop μ-loop
 returns-3 c = search needs
 
-pub read-input-spec : {M : Type 1} → statement M
-read-input-spec =
+pub read-all-spec : {M : Type 1} → statement M
+read-all-spec =
     tie.close
     (tie.spec
     Inv-loop

@@ -8,8 +8,8 @@ use lib.Seq.{length-take-le}
 use Rattle.groups.specs.Format.{left}
 use Rattle.leaves.specs.Table.{writeInFront}
 use borrow.Author.Needs.{needs}
-use Rattle.leaves.proofs.write_in_front.Statement.{statement}
-use Rattle.leaves.proofs.write_in_front.Tie as tie
+use Rattle.leaves.proofs.buffers.write_in_front.Statement.{statement}
+use Rattle.leaves.proofs.buffers.write_in_front.Tie as tie
 
 slice-relend-prefix-write : tie.Need-slice-relend-prefix-write
 slice-relend-prefix-write c = search needs
