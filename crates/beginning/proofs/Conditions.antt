@@ -1,6 +1,6 @@
 -- What a start comes to, by the condition of the worker k that was looked up.
 use Prim.Native.Nat.{ℕ}
-use mathlib.Core.Path.{_≡_, refl, sym, ap, _∙_}
+use mathlib.Core.Path.{_≡_, refl}
 use Rattle.shapes.specs.declared.Board.{Board}
 use Rattle.shapes.specs.declared.Worker.{Worker}
 use Rattle.shapes.specs.declared.Reply.{Reply}

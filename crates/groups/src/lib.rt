@@ -1,7 +1,5 @@
 // Numbers in groups of seven bits, lowest first, the top bit set when another follows, shortest form only.
 ghost use mathlib.Core.Path.{_≡_};
-ghost use Prim.Native.Nat.{ℕ};
-ghost use lib.IntN.{ℤ};
 ghost use lib.ListN.{length};
 ghost use Rattle.groups.specs.Format.{groupsOf, codeOf, signedOf};
 

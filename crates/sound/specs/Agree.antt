@@ -18,7 +18,6 @@ use Rattle.shapes.specs.declared.Totals.{Totals}
 use Rattle.shapes.specs.declared.Locals.{Locals}
 use Rattle.shapes.specs.declared.MaybeNode.{MaybeNode}
 use Rattle.shapes.specs.declared.MaybeNode.the-variants.{Absent, At}
-use Rattle.shapes.specs.declared.Kind.the-variants as kind
 use Rattle.shapes.specs.declared.Place.{Place}
 use Rattle.shapes.specs.declared.Place.the-variants as place
 use Rattle.shapes.specs.declared.Operation.the-variants.{Insert, Delete, Find, Scan}

@@ -6,7 +6,6 @@ use shapes::Totals;
 ghost use mathlib.Core.Path.{_≡_};
 ghost use Prim.Native.Nat.{_-_, _≤_};
 ghost use lib.ListN.{getD, set};
-ghost use lib.IntN.{ℤ};
 ghost use Rattle.shapes.specs.Numbers.{mostN};
 ghost use Rattle.tables.specs.Names.{node};
 ghost use Rattle.tables.specs.World.{spot};

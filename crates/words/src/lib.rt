@@ -8,7 +8,6 @@ use shapes::RecordNo;
 use tables::NODE_WIDTH;
 use tables::RECORD_WIDTH;
 ghost use mathlib.Core.Path.{_≡_};
-ghost use Prim.Native.Nat.{_+_, _*_};
 ghost use lib.ListN.{length, getD, set};
 ghost use Rattle.tables.specs.Rows.{word, putWord, putRow};
 ghost use Rattle.tables.specs.Nodes.{newNode};

@@ -1,5 +1,5 @@
 -- `admitted` is its definition: the worker's number chooses.
-use mathlib.Core.Path.{refl, sym, _∙_}
+use mathlib.Core.Path.{sym, _∙_}
 use borrow.Author.Tests.{lt-ltb, le-ltb}
 use Rattle.laws.specs.Choice.{pick-true, pick-false}
 use Rattle.beginning.specs.Starts.{admitted}

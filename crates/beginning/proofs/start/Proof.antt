@@ -1,5 +1,5 @@
 -- `start` is `startOf`: spoiled tables are refused, and on sound ones the board alone decides (`sound-start`).
-use mathlib.Core.Path.{refl, sym, _∙_}
+use mathlib.Core.Path.{sym, _∙_}
 use borrow.Author.Tests.{not-true, not-false}
 use Rattle.laws.specs.Choice.{pick-false}
 use Rattle.steps.specs.Turn.{startOf}

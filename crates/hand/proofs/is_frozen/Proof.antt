@@ -1,6 +1,6 @@
 -- `is_frozen` is FROZEN: the state as it is read, by the type of the word.
-use mathlib.Core.Path.{_≡_, refl, sym, ap, _∙_}
-use borrow.Author.Tests.{eq-eqb, ne-eqb, le-leb, lt-leb, lt-ltb, le-ltb}
+use mathlib.Core.Path.{refl}
+use borrow.Author.Tests.{eq-eqb, ne-eqb}
 use Rattle.steps.specs.Execute.{frozen}
 use Rattle.laws.specs.Choice.{pick}
 use borrow.Author.Needs.{needs}
