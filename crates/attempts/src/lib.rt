@@ -1,17 +1,15 @@
 // The words that an attempt reads (lines 66, 164, 189, 190), and what each operation does with a validated leaf (lines 78 and 79, 159, 181).
+use hand::ROOT;
 use shapes::Answer;
 use shapes::Decision;
 use shapes::Key;
 use shapes::Kind;
 use shapes::Locals;
 use shapes::MaybeNode;
-use shapes::NodeNo;
 use shapes::Place;
 use shapes::Totals;
 ghost use mathlib.Core.Path.{_≡_};
 ghost use Rattle.steps.specs.Attempt.{reaches182, validated, word66, grand66, word189, leafWord};
-
-const ROOT: NodeNo = NodeNo(0);
 
 // With gp absent, or p the Root so that gp has no word, line 182 is crooked.
 fn reaches182(v: Locals, gp: MaybeNode) -> Decision

@@ -41,5 +41,6 @@ pub use words::get;
 pub use words::new_node;
 pub use words::new_record;
 pub use words::put;
+pub use words::put_key;
 pub use workers::blank;
 pub use workers::idle;

@@ -13,7 +13,10 @@ pub use making::at_root;
 pub use making::at_word;
 pub use making::fresh_word;
 pub use making::holding_record;
+use shapes::NodeNo;
 use shapes::Update;
+use tables::ABORT;
+use tables::FLAG;
 pub use taking::down_to;
 pub use taking::with_gpup;
 pub use taking::with_i;
@@ -27,13 +30,16 @@ pub use taking::with_up;
 ghost use mathlib.Core.Path.{_≡_};
 ghost use Rattle.steps.specs.Execute.{frozen};
 
+// Node 0.
+pub const ROOT: NodeNo = NodeNo(0);
+
 // Lines 90 and 91: a FLAG in progress, or a MARK that is not aborted.
 pub fn is_frozen(rs: &[u32], u: Update) -> bool
     ensures { λ r. ⌜ r ≡ frozen (now (rs .entry)) u ⌝ }
 {
     let state = fields::state_at(rs, u.info);
-    if u.mark == 0 {
+    if u.mark == FLAG {
         return fields::in_progress(state);
     }
-    state < 3
+    state < ABORT
 }

@@ -5,6 +5,7 @@ use shapes::NodeNo;
 use shapes::Phase;
 use shapes::RecordNo;
 use shapes::Update;
+use tables::FLAG;
 ghost use mathlib.Core.Path.{_≡_};
 ghost use Rattle.tables.specs.Names.{freshWord};
 ghost use Rattle.steps.specs.Hand.{atRoot, atNode, atWord, holding};
@@ -13,7 +14,7 @@ pub fn fresh_word() -> Update
     ensures { λ r. ⌜ r ≡ freshWord ⌝ }
 {
     Update {
-        mark: 0,
+        mark: FLAG,
         info: RecordNo(0),
     }
 }

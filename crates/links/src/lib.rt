@@ -1,4 +1,5 @@
 // The links that an attempt validates: what follows a turn inside VALIDATELINK, and DELETE's sibling (line 182).
+use hand::ROOT;
 use shapes::Decision;
 use shapes::Key;
 use shapes::Link;
@@ -6,14 +7,11 @@ use shapes::LinkMove;
 use shapes::LinkStep;
 use shapes::Locals;
 use shapes::MaybeNode;
-use shapes::NodeNo;
 use shapes::Place;
 use shapes::Totals;
 ghost use mathlib.Core.Path.{_≡_};
 ghost use Rattle.tables.specs.World.{tables};
 ghost use Rattle.steps.specs.Attempt.{held, linkNext, linkStep, sibling182};
-
-const ROOT: NodeNo = NodeNo(0);
 
 // A link that holds: lines 65 and 66, 184, 188 and 190.
 fn held(totals: Totals, nodes: &[u32], v: Locals, a: Link) -> Decision

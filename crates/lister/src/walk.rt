@@ -1,6 +1,7 @@
 // A version's leaves from left to right, by levels: keys go into the list as they are met.
 use fields::is_internal;
 use fields::number_of;
+use fields::put_key;
 use fields::rank_at;
 use fields::read_child;
 use shapes::Key;
@@ -9,7 +10,6 @@ use shapes::NodeNo;
 use shapes::Phase;
 ghost use mathlib.Core.Path.{_≡_};
 ghost use Prim.Native.Nat.{_+_, _≤_};
-ghost use lib.ListN.{set};
 ghost use Rattle.shapes.specs.Numbers.{mostN};
 ghost use Rattle.listing.specs.Listing.{atLeaf, walk};
 ghost use Rattle.lister.specs.Lists.{standing, into};
@@ -18,15 +18,6 @@ ghost use Rattle.lister.specs.Lists.{standing, into};
 pub enum Walking {
     Crooked,
     On(u32, usize),
-}
-
-// Past the end nothing is written.
-fn put_key(keys: &mut [i32], at: usize, k: i32)
-    ensures { λ r. ⌜ now (keys .exit) ≡ set (now (keys .entry)) at k ⌝ }
-{
-    if at < keys.len() {
-        keys[at] = k;
-    }
 }
 
 // Only a finite key is listed; an infinite one is a leaf met all the same.

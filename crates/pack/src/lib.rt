@@ -1,14 +1,14 @@
 // The code that writes a number in groups of seven bits.
-ghost use mathlib.Core.Path.{_≡_};
-ghost use Prim.Native.Nat.{_+_, _≤_};
-ghost use lib.ListN.{length};
-ghost use lib.Seq.{sets};
-ghost use Rattle.groups.specs.Format.{groupsOf, left, writeOf, writeSignedOf};
 use groups::FOLLOWS;
 use groups::GROUP;
 use groups::Written;
 use groups::code;
 use groups::length;
+ghost use mathlib.Core.Path.{_≡_};
+ghost use Prim.Native.Nat.{_+_, _≤_};
+ghost use lib.ListN.{length};
+ghost use lib.Seq.{sets};
+ghost use Rattle.groups.specs.Format.{groupsOf, left, writeOf, writeSignedOf};
 
 // Writes the groups of a number where there is room for them.
 fn put_groups(n: u32, buffer: &mut [u8], at: usize)

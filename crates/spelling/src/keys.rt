@@ -1,4 +1,5 @@
 // The keys of a scan, put on the page.
+use lines::put_next_signed;
 ghost use mathlib.Core.Path.{_≡_};
 ghost use Prim.Native.Nat.{_+_, _*_, _≤_};
 ghost use lib.IntN.{pos};
@@ -6,7 +7,6 @@ ghost use lib.ListN.{length, getD};
 ghost use Rattle.lines.specs.Text.{keysText};
 ghost use Rattle.lines.specs.Page.{page, fill};
 ghost use Rattle.lines.specs.Lengths.{keyRoom};
-use lines::put_next_signed;
 
 // Key i from a place on; 0 past the end.
 fn key_at(found: &[i32], from: usize, i: usize) -> i32

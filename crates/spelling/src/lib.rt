@@ -1,9 +1,6 @@
 // The code that spells a line.
 mod keys; // the keys of a scan
 
-ghost use mathlib.Core.Path.{_≡_};
-ghost use Rattle.lines.specs.Text.{answeredText, refusedText, endText, badText, keysAt, listedOf, textOf};
-ghost use Rattle.lines.specs.Page.{page, spelt};
 use keys::put_keys;
 use lines::Line;
 use lines::listed;
@@ -15,6 +12,9 @@ use lines::put_text;
 use lines::refusal_number;
 use shapes::Answer;
 use shapes::Refusal;
+ghost use mathlib.Core.Path.{_≡_};
+ghost use Rattle.lines.specs.Text.{answeredText, refusedText, endText, badText, keysAt, listedOf, textOf};
+ghost use Rattle.lines.specs.Page.{page, spelt};
 
 // How many bytes a page has; no line needs more.
 const PAGE: usize = 16384;

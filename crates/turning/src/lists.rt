@@ -5,7 +5,7 @@ use shapes::PendingChange;
 use shapes::Totals;
 ghost use mathlib.Core.Path.{_≡_};
 ghost use Prim.Native.Nat.{_-_, _≤_};
-ghost use lib.ListN.{getD, set};
+ghost use lib.ListN.{getD};
 ghost use Rattle.shapes.specs.Numbers.{mostN};
 ghost use Rattle.tables.specs.Names.{node};
 ghost use Rattle.tables.specs.World.{spot};
@@ -65,21 +65,13 @@ pub fn push(pending: &mut [u32], at: usize, change: PendingChange)
     }
 }
 
-fn put_key(found: &mut [i32], at: usize, k: i32)
-    ensures { λ r. ⌜ now (found .exit) ≡ set (now (found .entry)) at k ⌝ }
-{
-    if at < found.len() {
-        found[at] = k;
-    }
-}
-
 pub fn add(found: &mut [i32], at: usize, change: FoundChange)
     ensures { λ r. ⌜ now (found .exit) ≡ added (now (found .entry)) at change ⌝ }
 {
     match change {
         FoundChange::Keep => {}
         FoundChange::Add(k) => {
-            put_key(found, at, fields::number_of(k));
+            fields::put_key(found, at, fields::number_of(k));
         }
     }
 }

@@ -1,6 +1,4 @@
 // The code that reads a number in groups of seven bits.
-ghost use mathlib.Core.Path.{_≡_};
-ghost use Rattle.groups.specs.Format.{bits, readUpTo, readOf, faultOf, readSignedOf};
 use groups::FOLLOWS;
 use groups::Fault;
 use groups::GROUP;
@@ -8,6 +6,8 @@ use groups::MOST_GROUPS;
 use groups::Reading;
 use groups::SignedReading;
 use groups::signed;
+ghost use mathlib.Core.Path.{_≡_};
+ghost use Rattle.groups.specs.Format.{bits, readUpTo, readOf, faultOf, readSignedOf};
 
 // The largest number that can stand above a group within 32 bits.
 const MOST_ABOVE: u32 = 33_554_431;

@@ -1,4 +1,4 @@
-// Total reads and writes of a flat table: a place past the end reads 0, a write there changes nothing. One word, a whole row.
+// Total reads and writes of a flat table: a place past the end reads 0, a write there changes nothing. One word or key, a whole row.
 use shapes::Filling;
 use shapes::MaybeNode;
 use shapes::NodeNo;
@@ -24,6 +24,14 @@ pub fn put(t: &mut [u32], at: usize, v: u32)
 {
     if at < t.len() {
         t[at] = v;
+    }
+}
+
+pub fn put_key(t: &mut [i32], at: usize, k: i32)
+    ensures { λ r. ⌜ now (t .exit) ≡ set (now (t .entry)) at k ⌝ }
+{
+    if at < t.len() {
+        t[at] = k;
     }
 }
 

@@ -1,10 +1,10 @@
 -- `put_key` sets a place; past the end `set` changes nothing.
-use native.Mathlib.Omega.{arith}
 use mathlib.Core.Path.{sym}
+use native.Mathlib.Omega.{arith}
 use lib.Seq.{set-out}
 use borrow.Author.Needs.{needs}
-use Rattle.lister.proofs.walk.put_key.Statement.{statement}
-use Rattle.lister.proofs.walk.put_key.Tie as tie
+use Rattle.words.proofs.put_key.Statement.{statement}
+use Rattle.words.proofs.put_key.Tie as tie
 
 mul-k : tie.Need-mul-k
 mul-k c = search needs
