@@ -141,5 +141,7 @@ pub fn same_record(r: RecordNo, q: RecordNo) -> bool
 pub fn same_update(u: Update, v: Update) -> bool
     ensures { λ r. ⌜ r ≡ sameUpdate u v ⌝ }
 {
-    u.mark == v.mark && same_record(u.info, v.info)
+    let ours = u.mark;
+    let theirs = v.mark;
+    ours == theirs && same_record(u.info, v.info)
 }

@@ -11,11 +11,15 @@ same-record-requires c κs = search needs
 
 returns : tie.Need-returns
 unfolding sameUpdate
-returns c = rw (eq-eqb _ _ (c .before .if1 .taken), ← c .same-record .ensures) refl
+returns c =
+    let a = c .before .before .args in
+    rw (eq-eqb (a .u .mark) (a .v .mark) (c .before .if1 .taken), c .same-record .ensures) refl
 
 returns-2 : tie.Need-returns-2
 unfolding sameUpdate
-returns-2 c = rw (ne-eqb _ _ (c .if1 .left)) refl
+returns-2 c =
+    let a = c .before .args in
+    rw (ne-eqb (a .u .mark) (a .v .mark) (c .if1 .left)) refl
 
 pub same-update-spec : {M : Type 1} → statement M
 same-update-spec = tie.close (tie.spec same-record-requires returns returns-2)

@@ -11,7 +11,7 @@ line-of-requires : tie.Need-line-of-requires
 line-of-requires c κs = search needs
 
 returns : tie.Need-returns
-returns c = rw (← c .before .started-counts .ensures, ← c .line-of .ensures) refl
+returns c = rw (c .line-of .ensures, c .before .started-counts .ensures) refl
 
 pub begun-spec : {M : Type 1} → statement M
 begun-spec = tie.close (tie.spec started-counts-requires line-of-requires returns)

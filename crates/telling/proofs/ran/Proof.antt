@@ -17,7 +17,7 @@ line-of-requires : tie.Need-line-of-requires
 line-of-requires c κs = search needs
 
 returns : tie.Need-returns
-returns c = rw (← c .before .before .before .count-of .ensures, ← c .before .before .counted .ensures, ← c .before .with-count .ensures, ← c .line-of .ensures) refl
+returns c = rw (c .line-of .ensures, c .before .with-count .ensures, c .before .before .counted .ensures, c .before .before .before .count-of .ensures) refl
 
 pub ran-spec : {M : Type 1} → statement M
 ran-spec =

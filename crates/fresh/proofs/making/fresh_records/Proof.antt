@@ -1,4 +1,5 @@
 -- `fresh_records` is `freshRecords`, one write after the other.
+use mathlib.Core.Path.{refl}
 use borrow.Author.Needs.{needs}
 use Rattle.tables.specs.Fresh.{freshRecords}
 use Rattle.fresh.proofs.making.fresh_records.Statement.{statement}
@@ -24,7 +25,7 @@ same-length c = search needs
 
 returns : tie.Need-returns
 unfolding freshRecords
-returns c = cc
+returns c = rw (c .before .before .new-record .ensures, c .before .before .before .unfilled .ensures, c .before .before .before .before .before .before .before .clear .ensures) refl
 
 pub fresh-records-spec : {M : Type 1} → statement M
 fresh-records-spec =
