@@ -19,8 +19,12 @@ room-fits t k e = says-and (says-le (t .nodes + k) (t .n)) (says-le (t .records 
 room-requires : tie.Need-room-requires
 room-requires c κs = search needs
 
+-- the room asked for is for three nodes
+asked : (c : tie.After-room) → c .room .result ≡ room (c .before .before .before .args .totals) 3
+asked c = c .room .ensures
+
 add-internal : tie.Need-add-internal
-add-internal c = omega (arith, room-fits _ _ (sym (c .before .before .room .ensures) ∙ c .before .if1 .taken))
+add-internal c = omega (arith, room-fits _ _ (sym (asked (c .before .before)) ∙ c .before .if1 .taken))
 
 with-taken-requires : tie.Need-with-taken-requires
 with-taken-requires c κs = search needs
@@ -33,11 +37,11 @@ say-requires c κs = search needs
 
 returns : tie.Need-returns
 unfolding takeThree pick
-returns c = rw (← c .before .before .before .before .room .ensures, c .before .before .before .if1 .taken) (rw (c .before .with-taken .ensures) at (c .decide-to .ensures))
+returns c = rw (← asked (c .before .before .before .before), c .before .before .before .if1 .taken) (rw (c .before .with-taken .ensures) at (c .decide-to .ensures))
 
 returns-2 : tie.Need-returns-2
 unfolding takeThree pick
-returns-2 c = rw (← c .before .before .room .ensures, c .before .if1 .left) (c .say .ensures)
+returns-2 c = rw (← asked (c .before .before), c .before .if1 .left) (c .say .ensures)
 
 pub take-three-spec : {M : Type 1} → statement M
 take-three-spec =
