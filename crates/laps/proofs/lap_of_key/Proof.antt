@@ -1,10 +1,10 @@
 -- `laps::lap_of_key` gives the definition's answer: it tests the difference of the lap that `lap_at` found, which is the key's.
-use mathlib.Core.Path.{_≡_, sym, _∙_}
+use mathlib.Core.Path.{_≡_, sym, ap, _∙_}
 use borrow.Author.Needs.{needs}
 use mir.Syntax.{w32}
 use mir.ValLaws.{toZ-ofZ}
 use Rattle.laws.specs.Choice.{pick-true, pick-false}
-use Rattle.laps.specs.Laps.{toldLap, lapOfKey, lapAt, entries, floorDiv, differenceInRange}
+use Rattle.laps.specs.Laps.{gives, toldLap, lapOfKey, lapAt, entries, floorDiv, differenceInRange}
 use Rattle.laps.proofs.Quotients.{floor-fits}
 use Rattle.laps.proofs.lap_of_key.Statement.{statement}
 use Rattle.laps.proofs.lap_of_key.Tie as tie
@@ -26,7 +26,7 @@ tested c =
 
 returns : tie.Need-returns
 unfolding toldLap lapOfKey
-returns c = simp (lap (c .before .before .before)) (sym (pick-true _ _ _ (sym (tested (c .before)) ∙ c .if1 .taken)))
+returns c = ap gives (lap (c .before .before .before)) ∙ sym (pick-true _ _ _ (sym (tested (c .before)) ∙ c .if1 .taken))
 
 returns-2 : tie.Need-returns-2
 unfolding toldLap lapOfKey
