@@ -1,7 +1,6 @@
 -- `play` is `playOf`, by the command: a start told by `begun`, a run by `ran`.
-use mathlib.Core.Path.{refl}
-use Rattle.tally.specs.Playing.{playBy, ran}
-use Rattle.playing.proofs.Told.{begun-told}
+use Rattle.tally.specs.Playing.{playBy}
+use Rattle.playing.proofs.Told.{begun-told, ran-told}
 use mir.Syntax.{w32}
 use mir.ValLaws.{toZ-ofZ}
 use borrow.Author.Needs.{needs}
@@ -130,8 +129,8 @@ same-length-20 : tie.Need-same-length-20
 same-length-20 c = search needs
 
 returns-5 : tie.Need-returns-5
-unfolding playBy ran
-returns-5 c = rw (c .before .before .before .before .before .before .before .before .before .before .before .before .before .before .command5 .given .1, ← c .before .before .before .before .before .before .before .before .run .ensures, c .ran .ensures) refl
+unfolding playBy
+returns-5 c = rw (c .before .before .before .before .before .before .before .before .before .before .before .before .before .before .command5 .given .1) (ran-told _ _ _ (c .before .before .before .before .before .before .before .before .run .ensures) (c .ran .ensures))
 
 pub play-spec : {M : Type 1} → statement M
 play-spec =
