@@ -1,4 +1,5 @@
 -- `pending_node_ok` tests the node at `spot`: the place fits 64 bits (`row-fits`), and `get` reads it.
+use mathlib.Core.Path.{refl}
 use native.Mathlib.Omega.{arith}
 use borrow.Author.Needs.{needs}
 use Rattle.tables.specs.Places.{row-fits}
@@ -23,7 +24,7 @@ used-node-requires c κs = search needs
 
 returns : tie.Need-returns
 unfolding spot
-returns c = rw (c .used-node .ensures, c .before .get .ensures)
+returns c = rw (c .used-node .ensures, c .before .get .ensures) refl
 
 pub pending-node-ok-spec : {M : Type 1} → statement M
 pending-node-ok-spec =

@@ -1,5 +1,5 @@
 -- `laps::lap_at` rounds down: where something below zero remains it takes one more off the quotient, and the rest from below.
-use mathlib.Core.Path.{_≡_}
+use mathlib.Core.Path.{_≡_, refl}
 use mathlib.Core.Bool.{true, false}
 use native.Mathlib.Omega.{arith}
 use lib.IntN.{pos}
@@ -56,7 +56,7 @@ returns : tie.Need-returns
 unfolding lapAt
 returns c =
     let fits = c .before .fits .key in
-    simp (toZ-ofZ w32 _ fits, lowered w32 _ entries fits some-entries (below c), raised w32 _ entries fits some-entries (below c), toZ-ofZ w32 _ (floor-fits w32 _ entries fits), toZ-ofZ w32 _ (rest-fits (c .before .args .key)))
+    simp (toZ-ofZ w32 _ fits, lowered w32 _ entries fits some-entries (below c), raised w32 _ entries fits some-entries (below c), toZ-ofZ w32 _ (floor-fits w32 _ entries fits), toZ-ofZ w32 _ (rest-fits (c .before .args .key))) refl
 
 returns-2 : tie.Need-returns-2
 unfolding lapAt

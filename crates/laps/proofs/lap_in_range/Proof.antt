@@ -1,5 +1,5 @@
 -- `laps::lap_in_range` is the definition's test: that of the difference, and where it holds that of the entry.
-use mathlib.Core.Path.{_≡_, sym, _∙_}
+use mathlib.Core.Path.{_≡_, refl, sym, _∙_}
 use borrow.Author.Needs.{needs}
 use mir.Syntax.{w32}
 use mir.ValLaws.{toZ-ofZ}
@@ -16,7 +16,7 @@ tested c = rw (toZ-ofZ w32 _ (c .before .fits .difference)) at (c .difference-in
 
 returns : tie.Need-returns
 unfolding lapInRange
-returns c = rw (sym (tested (c .before)) ∙ c .if1 .taken)
+returns c = rw (sym (tested (c .before)) ∙ c .if1 .taken) refl
 
 returns-2 : tie.Need-returns-2
 unfolding lapInRange

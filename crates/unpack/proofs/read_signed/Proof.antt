@@ -1,4 +1,5 @@
 -- `unpack::read_signed` meets its contract: a fault is handed on, and a number is taken for a code.
+use mathlib.Core.Path.{refl}
 use mir.Syntax.{w32}
 use mir.ValLaws.{toZ-ofZ}
 use Rattle.groups.specs.Format.{decoded, faultOf}
@@ -27,7 +28,7 @@ signed-requires c κs = search needs
 
 returns-2 : tie.Need-returns-2
 unfolding decoded
-returns-2 c = rw (← c .before .before .before .before .read .ensures, c .before .before .reading .given .1, toZ-ofZ w32 (c .signed .result) (record { sfits = c .signed .ok }), c .signed .ensures)
+returns-2 c = rw (← c .before .before .before .before .read .ensures, c .before .before .reading .given .1, toZ-ofZ w32 (c .signed .result) (record { sfits = c .signed .ok }), c .signed .ensures) refl
 
 pub read-signed-spec : {M : Type 1} → statement M
 read-signed-spec =

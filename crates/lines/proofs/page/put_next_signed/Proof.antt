@@ -1,5 +1,5 @@
 -- `put_next_signed` puts a blank and the digits of half the code, behind a minus and one more where the code is odd.
-use mathlib.Core.Path.{_≡_}
+use mathlib.Core.Path.{_≡_, refl}
 use mir.Syntax.{w32}
 use mir.ValLaws.{toZ-ofZ}
 use Rattle.groups.specs.Format.{codeOf}
@@ -47,7 +47,7 @@ unfolding fill
 returns-2 c =
     let z = c .before .before .before .before .before .before .before .before .before .before .before .before .args .n in
     let sent : c .before .before .before .before .before .before .before .before .before .before .code .result ≡ codeOf z = rw (toZ-ofZ w32 z (c .before .before .before .before .before .before .before .before .before .before .before .before .fits .n)) at (c .before .before .before .before .before .before .before .before .before .before .code .ensures) in
-    rw (signed-negative z (rw sent at (c .before .before .before .before .before .before .before .before .before .if1 .left)), ← sent, c .before .before .put-number .ensures, c .before .before .before .before .before .before .put-text .ensures)
+    rw (signed-negative z (rw sent at (c .before .before .before .before .before .before .before .before .before .if1 .left)), ← sent, c .before .before .put-number .ensures, c .before .before .before .before .before .before .put-text .ensures) refl
 
 pub put-next-signed-spec : {M : Type 1} → statement M
 put-next-signed-spec =
