@@ -60,24 +60,22 @@ fn play(script: &[u8]) {
             kept_records = records;
             kept_pending = pending;
             kept_desk = desk;
-            continue;
-        }
-        if command(line) == b'u' {
+        } else if command(line) == b'u' {
             nodes = kept_nodes;
             records = kept_records;
             pending = kept_pending;
             desk = kept_desk;
-            continue;
+        } else {
+            desk = obey(
+                line,
+                desk,
+                &mut nodes,
+                &mut records,
+                &mut pending,
+                &mut found,
+                &mut keys,
+            );
         }
-        desk = obey(
-            line,
-            desk,
-            &mut nodes,
-            &mut records,
-            &mut pending,
-            &mut found,
-            &mut keys,
-        );
     }
 }
 

@@ -1,5 +1,5 @@
 -- `end` puts its words in their order, and they fit the page.
-use mathlib.Core.Path.{_≡_}
+use mathlib.Core.Path.{_≡_, refl}
 use native.Mathlib.Omega.{arith}
 use lib.ListN.{length}
 use denote.Ref.{now}
@@ -37,7 +37,7 @@ returns c =
     let a = c .before .before .before .before .before .before .before .before .before .before .before .before .before .args in
     let whole : length (now (a .out)) ≡ size = omega arith in
     let fits = end-fits (a .commands) (a .nodes) (a .records) (a .counter) (omega arith) (omega arith) (omega arith) (omega arith) in
-    rw (c .put-byte .ensures, c .before .before .put-next4 .ensures, c .before .before .before .before .put-next3 .ensures, c .before .before .before .before .before .before .put-next2 .ensures, c .before .before .before .before .before .before .before .before .put-next .ensures, c .before .before .before .before .before .before .before .before .before .before .put-text .ensures, ← fills-page (endText (a .commands) (a .nodes) (a .records) (a .counter)) (now (a .out)) (omega arith)) (simp (fill-line, fill-word, fill-no-words))
+    rw (c .put-byte .ensures, c .before .before .put-next4 .ensures, c .before .before .before .before .put-next3 .ensures, c .before .before .before .before .before .before .put-next2 .ensures, c .before .before .before .before .before .before .before .before .put-next .ensures, c .before .before .before .before .before .before .before .before .before .before .put-text .ensures, ← fills-page (endText (a .commands) (a .nodes) (a .records) (a .counter)) (now (a .out)) (omega arith)) (simp (fill-line, fill-word, fill-no-words) refl)
 
 pub end-spec : {M : Type 1} → statement M
 end-spec =
