@@ -5,4 +5,3 @@ pub mod RoundTrip
 pub mod Writing
 pub mod Codes
 pub mod Examples
-pub mod Outcomes

@@ -1,6 +1,6 @@
 pub mod Laps
 pub mod Examples
-pub mod Outcomes
+pub mod Answers
 pub mod Ranges
 pub mod Floor
 pub mod Inverse

@@ -1,11 +1,21 @@
--- One outcome for each input: a contract that equates all that a call leaves with a definition of what it was given allows
--- one outcome. Proved once, for any function; each public function's contract is an instance.
-use mathlib.Core.Path.{_≡_, sym, _∙_}
+-- One outcome for each input: a contract that equates what an outcome comes to with a definition of what the call was given allows
+-- one outcome, if the outcome can be had back from what it comes to. Proved once, for any contract.
+use mathlib.Core.Path.{_≡_, refl, sym, ap, _∙_}
 
--- `allows x o`: the contract, with x all that a call is given and o all that it leaves
-unfoldable pub OneOutcome : {X O : Type 0} → (X → O → Type 0) → Type 0
-OneOutcome {X} {O} allows = (x : X) (o p : O) → allows x o → allows x p → o ≡ p
+-- a contract as the check reads it off the code: of lifetimes, what a call is given, its answer, and how that which was given stands at exit
+abbrev pub Contract : Type 0 → Type 0 → Type 0 → Type 0 → Type 1
+Contract K A R E = K → A → R → E → Type 0
 
-pub one-outcome : {X O : Type 0} (f : X → O) → OneOutcome (λ (x : X) (o : O). o ≡ f x)
-unfolding OneOutcome
-one-outcome f x o p this that = this ∙ sym that
+-- any two outcomes that it allows are equal; an outcome is what is seen of it, the answer and each list that the call may write
+abbrev pub OneOutcome : {K A R E O : Type 0} → Contract K A R E → (R → E → O) → Type 0
+OneOutcome {K} {A} {R} {E} allows seen = (k : K) (a : A) (r q : R) (x y : E) → allows k a r x → allows k a q y → seen r x ≡ seen q y
+
+pub one-outcome : {K A R E O L : Type 0} (seen : R → E → O) (comes : A → O → L) (back : L → O) → ((a : A) (o : O) → back (comes a o) ≡ o) → (f : K → A → L) → OneOutcome (λ (k : K) (a : A) (r : R) (x : E). comes a (seen r x) ≡ f k a) seen
+one-outcome seen comes back same f k a r q x y this that = sym (same a (seen r x)) ∙ ap back (this ∙ sym that) ∙ same a (seen q y)
+
+-- where only the answer is seen, and the contract says what it is
+abbrev pub answer : {R E : Type 0} → R → E → R
+answer r x = r
+
+pub one-answer : {K A R E : Type 0} (f : K → A → R) → OneOutcome (λ (k : K) (a : A) (r : R) (x : E). r ≡ f k a) answer
+one-answer f = one-outcome answer (λ a r. r) (λ r. r) (λ a r. refl) f

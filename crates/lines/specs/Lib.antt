@@ -4,4 +4,3 @@ pub mod Page
 pub mod Keys
 pub mod Lengths
 pub mod Examples
-pub mod Outcomes

@@ -10,4 +10,3 @@ pub mod Openings
 pub mod Whole
 pub mod Written
 pub mod Examples
-pub mod Outcomes
