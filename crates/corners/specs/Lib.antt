@@ -2,6 +2,8 @@ pub mod Helping
 pub mod Corners
 pub mod FreshTables
 pub mod Refusals
+pub mod CrookedTables
 pub mod Crooked
 pub mod Spoiled
+pub mod SpoiledWorkers
 pub mod Large

@@ -13,9 +13,17 @@ OneOutcome {K} {A} {R} {E} allows seen = (k : K) (a : A) (r q : R) (x y : E) →
 pub one-outcome : {K A R E O L : Type 0} (seen : R → E → O) (comes : A → O → L) (back : L → O) → ((a : A) (o : O) → back (comes a o) ≡ o) → (f : K → A → L) → OneOutcome (λ (k : K) (a : A) (r : R) (x : E). comes a (seen r x) ≡ f k a) seen
 one-outcome seen comes back same f k a r q x y this that = sym (same a (seen r x)) ∙ ap back (this ∙ sym that) ∙ same a (seen q y)
 
--- where only the answer is seen, and the contract says what it is
+-- where only the answer is seen
 abbrev pub answer : {R E : Type 0} → R → E → R
 answer r x = r
 
-pub one-answer : {K A R E : Type 0} (f : K → A → R) → OneOutcome (λ (k : K) (a : A) (r : R) (x : E). r ≡ f k a) answer
+abbrev pub OneAnswer : {K A R E : Type 0} → Contract K A R E → Type 0
+OneAnswer allows = OneOutcome allows answer
+
+-- and the contract says what it is
+pub one-answer : {K A R E : Type 0} (f : K → A → R) → OneAnswer (λ (k : K) (a : A) (r : R) (x : E). r ≡ f k a)
 one-answer f = one-outcome answer (λ a r. r) (λ r. r) (λ a r. refl) f
+
+-- or says so whatever b is, of which there is one
+pub one-answer-at : {K A R E B : Type 0} (b : B) (f : K → A → B → R) → OneAnswer (λ (k : K) (a : A) (r : R) (x : E). (c : B) → r ≡ f k a c)
+one-answer-at b f k a r q x y this that = this b ∙ sym (that b)
