@@ -34,7 +34,8 @@ use Rattle.steps.specs.Kept.{isRefused}
 use Rattle.kept.specs.Later.{Grows}
 use Rattle.kept.specs.Effects.{effect-keeps}
 use Rattle.kept.specs.Good.{GoodStep, Good}
-use Rattle.kept.specs.Kept.{homeOf, listedBy, decide-good, top-used}
+use Rattle.kept.specs.Settled.{homeOf, listedBy, decide-good}
+use Rattle.kept.specs.Kept.{top-used}
 use Rattle.views.specs.View.{view}
 use Rattle.protocol.specs.Trees.{version-kept}
 use Rattle.protocol.specs.HelpTurns.{Gives}

@@ -35,7 +35,9 @@ use Rattle.kept.specs.Later.{KeepsFixed, Later, grows-same}
 use Rattle.kept.specs.Fits.{Fits}
 use Rattle.kept.specs.Effects.{effect-keeps}
 use Rattle.kept.specs.Good.{PendingFits, FoundFits, GoodStep, Good}
-use Rattle.kept.specs.Kept.{homeOf, listedBy, decide-good, spot-other, top-used}
+use Rattle.kept.specs.Spots.{spot-other}
+use Rattle.kept.specs.Settled.{homeOf, listedBy, decide-good}
+use Rattle.kept.specs.Kept.{top-used}
 use Rattle.kept.specs.Touched.{Changeable, none, touched, valueAt, UsedWord, one-word}
 
 -- a filled record keeps all but its state

@@ -7,6 +7,8 @@ pub mod Good
 pub mod Helping
 pub mod Attempts
 pub mod Scanning
+pub mod Spots
+pub mod Settled
 pub mod Kept
 pub mod Fresh
 pub mod Touched

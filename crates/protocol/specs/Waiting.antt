@@ -15,7 +15,7 @@ use Rattle.tables.specs.World.{World, totalsOf, spot, pendingAt}
 use Rattle.steps.specs.Scan.{Lists}
 use Rattle.steps.specs.Turn.{pendingLeft, pushed, listsOf}
 use Rattle.kept.specs.Good.{PendingFits}
-use Rattle.kept.specs.Kept.{spot-within, spot-other}
+use Rattle.kept.specs.Spots.{spot-within, spot-other}
 
 -- the first k values of f, the last first
 unfoldable pub stack : (ℕ → ℕ) → ℕ → List ℕ

@@ -7,7 +7,7 @@ use lib.ListN.{length, getD, set, length-append}
 use borrow.Author.Tests.{le-leb}
 use Rattle.laws.specs.Choice.{pick-true}
 use Rattle.laws.specs.Parts.{below-head, below-tail}
-use Rattle.kept.specs.Kept.{at-set}
+use Rattle.kept.specs.Spots.{at-set}
 use Rattle.schedule.specs.Numbers.{turns}
 use Rattle.schedule.specs.Format.{numbersOf, commandBytes, openingBytes, Proper, Schedule, allBytes, scheduleBytes, EachProper, Is}
 use Rattle.schedule.specs.Commands.{command-some}
