@@ -1,1 +1,1 @@
-// One outcome for each input: every public function in one list. Theorems only.
+// One outcome for each input: every exported function, by its own contract. Theorems only.
