@@ -14,16 +14,7 @@ pub lines-once :
     OneOutcome lines.put_number.Reads.Post (λ r x. with r (x .1 .0)) ×
     OneOutcome lines.put_text.Reads.Post (λ r x. with r (x .1 .0)) ×
     OneAnswer lines.refusal_number.Reads.Post
-lines-once = (
-  one-answer _,
-  fills (λ x. x .1 .0) _,
-  fills (λ x. x .1 .0) _,
-  fills (λ x. x .1 .0) _,
-  fills (λ x. x .1 .0) _,
-  fills (λ x. x .1 .0) _,
-  fills (λ x. x .1 .0) _,
-  one-answer _,
-)
+lines-once = (one-answer _, fills (λ x. x .1 .0) _, fills (λ x. x .1 .0) _, fills (λ x. x .1 .0) _, fills (λ x. x .1 .0) _, fills (λ x. x .1 .0) _, fills (λ x. x .1 .0) _, one-answer _)
 
 -- `counts`: turn counts
 pub counts-once :

@@ -42,22 +42,7 @@ pub nodes-once :
     OneOutcome nodes.set_child.Reads.Post (λ r x. x .0 .now) ×
     OneOutcome nodes.set_update.Reads.Post (λ r x. x .0 .now) ×
     OneAnswer nodes.update_at.Reads.Post
-nodes-once = (
-  one-answer _,
-  one-answer _,
-  one-answer _,
-  one-answer _,
-  one-answer _,
-  one-answer _,
-  one-answer _,
-  one-answer _,
-  one-answer _,
-  one-answer _,
-  one-answer _,
-  puts (λ x. x .0) _,
-  puts (λ x. x .0) _,
-  one-answer _,
-)
+nodes-once = (one-answer _, one-answer _, one-answer _, one-answer _, one-answer _, one-answer _, one-answer _, one-answer _, one-answer _, one-answer _, one-answer _, puts (λ x. x .0) _, puts (λ x. x .0) _, one-answer _)
 
 -- `records`: a record's fields
 pub records-once :
@@ -73,20 +58,7 @@ pub records-once :
     OneOutcome records.set_state.Reads.Post (λ r x. x .0 .now) ×
     OneAnswer records.state_at.Reads.Post ×
     OneAnswer records.unfilled.Reads.Post
-records-once = (
-  one-answer _,
-  one-answer _,
-  one-answer _,
-  one-answer _,
-  one-answer _,
-  one-answer _,
-  one-answer _,
-  one-answer _,
-  one-answer _,
-  puts (λ x. x .0) _,
-  one-answer _,
-  one-answer _,
-)
+records-once = (one-answer _, one-answer _, one-answer _, one-answer _, one-answer _, one-answer _, one-answer _, one-answer _, one-answer _, puts (λ x. x .0) _, one-answer _, one-answer _)
 
 -- `fields`: READCHILD, keys, sizes, a worker that holds nothing
 pub fields-once :
@@ -99,17 +71,7 @@ pub fields-once :
     OneAnswer fields.number_of.Reads.Post ×
     OneAnswer fields.read_child.Reads.Post ×
     OneAnswer fields.sizes_ok.Reads.Post
-fields-once = (
-  one-answer _,
-  one-answer _,
-  one-answer _,
-  one-answer _,
-  one-answer _,
-  one-answer-at (lent .board) _,
-  one-answer _,
-  one-answer _,
-  one-answer _,
-)
+fields-once = (one-answer _, one-answer _, one-answer _, one-answer _, one-answer _, one-answer-at (lent .board) _, one-answer _, one-answer _, one-answer _)
 
 -- `boards`: a worker of the board
 pub boards-once :
@@ -122,10 +84,7 @@ boards-once = (one-answer _, one-answer _, one-answer _)
 pub effects-once :
     OneOutcome effects.apply.Reads.Post (λ r x. withBoth r (x .1 .1 .0) (x .1 .1 .1 .0)) ×
     OneAnswer effects.within.Reads.Post
-effects-once = (
-  one-outcome (λ r x. withBoth r (x .1 .1 .0) (x .1 .1 .1 .0)) (λ a o. tables (o .0) (o .1) (o .2)) (λ d. (d .totals, d .nodes, d .records)) (λ a o. refl) _,
-  one-answer _,
-)
+effects-once = (one-outcome (λ r x. withBoth r (x .1 .1 .0) (x .1 .1 .1 .0)) (λ a o. tables (o .0) (o .1) (o .2)) (λ d. (d .totals, d .nodes, d .records)) (λ a o. refl) _, one-answer _)
 
 -- `rows`: clauses on nodes and records
 pub rows-once :
@@ -139,18 +98,7 @@ pub rows-once :
     OneAnswer rows.used_ok.Reads.Post ×
     OneAnswer rows.used_record.Reads.Post ×
     OneAnswer rows.word_ok.Reads.Post
-rows-once = (
-  one-answer _,
-  one-answer _,
-  one-answer _,
-  one-answer _,
-  one-answer _,
-  one-answer _,
-  one-answer _,
-  one-answer _,
-  one-answer _,
-  one-answer _,
-)
+rows-once = (one-answer _, one-answer _, one-answer _, one-answer _, one-answer _, one-answer _, one-answer _, one-answer _, one-answer _, one-answer _)
 
 -- `homes`: which places are whose
 pub homes-once :

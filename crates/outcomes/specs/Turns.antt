@@ -39,29 +39,7 @@ pub hand-once :
     OneAnswer hand.with_sup.Reads.Post ×
     OneAnswer hand.with_taken.Reads.Post ×
     OneAnswer hand.with_up.Reads.Post
-hand-once = (
-  one-answer _,
-  one-answer _,
-  one-answer _,
-  one-answer _,
-  one-answer _,
-  one-answer _,
-  one-answer _,
-  one-answer _,
-  one-answer _,
-  one-answer _,
-  one-answer _,
-  one-answer _,
-  one-answer _,
-  one-answer _,
-  one-answer _,
-  one-answer _,
-  one-answer _,
-  one-answer _,
-  one-answer _,
-  one-answer _,
-  one-answer _,
-)
+hand-once = (one-answer _, one-answer _, one-answer _, one-answer _, one-answer _, one-answer _, one-answer _, one-answer _, one-answer _, one-answer _, one-answer _, one-answer _, one-answer _, one-answer _, one-answer _, one-answer _, one-answer _, one-answer _, one-answer _, one-answer _, one-answer _)
 
 -- `seek`: SEARCH and VALIDATELINK
 pub seek-once :
