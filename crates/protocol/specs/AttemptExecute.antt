@@ -149,7 +149,7 @@ module _ (w : ℕ) (s : Tables) (h : TablesSound s) (G : Ghost) (H : Holds (view
     unfolding view
     row103 =
         let R = H .records (v .info .0) (a .filled) in
-        let l : nodeOf (view s .filling (v .info .0)) 1 < s .totals .nodes = H .used _ (R .linked 1 (record { low = omega arith; high = let t = R .two in omega arith })) in
+        let l : nodeOf (view s .filling (v .info .0)) 1 < s .totals .nodes = H .used _ (R .lists .linked 1 (record { low = omega arith; high = let t = R .lists .two in omega arith })) in
         let m = h .used .most-nodes in
         omega arith
 

@@ -150,20 +150,19 @@ module _ (w : ℕ) (X : View) (G : Ghost) (H : Holds X G) (v : Locals) (g : Node
     used = h .taken .used;
     empty = h .taken .empty;
     other = h .taken .other;
-    two = omega arith;
-    most-listed = omega arith;
     final = each (λ x u. Final X u) (h .gpup .final) (h .pup .final) (lup .final) sup;
     seen = each (λ x u. Seen X G x u) (h .gpup .seen) (h .pup .seen) (lup .seen) (s .seen);
-    first = refl;
-    second = refl;
-    linked = each (λ x u. G .linked x ≡ true) (h .linked .0) (h .linked .1) (h .linked .2) (h .linked .3);
-    apart = λ i j a b c d e. by i j a b c d e;
-    inner = h .inner .0;
-    old-phase = h .phases .0;
-    new-used = h .made .used;
-    made = h .made .maker;
-    prev = h .copy .prev;
-    new-phase = h .copy .phase;
+    lists = record {
+      two = omega arith;
+      most-listed = omega arith;
+      first = refl;
+      second = refl;
+      linked = λ j i. each (λ x u. G .linked x ≡ true) (h .linked .0) (h .linked .1) (h .linked .2) (h .linked .3) j (i .low) (i .high);
+      apart = λ i j a b. by i j (a .low) (a .high) (b .low) (b .high);
+      inner = h .inner .0;
+      old-phase = h .phases .0;
+    };
+    makes = record { new-used = h .made .used; made = h .made .maker; prev = h .copy .prev; new-phase = h .copy .phase };
     fresh = h .made .fresh;
     kind = inr copied-of;
   }

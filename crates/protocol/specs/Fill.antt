@@ -2,18 +2,17 @@
 use Prim.Native.Nat.{ℕ, suc, _≤_, _<_}
 use mathlib.Core.Path.{_≡_, sym, ap, _∙_, subst}
 use mathlib.Core.Logic.{_≢_, _⊎_, inl, inr}
-use mathlib.Core.Bool.{true, false, true≢false}
+use mathlib.Core.Bool.{false, true≢false}
 use native.Mathlib.Omega.{arith}
 use Rattle.laws.specs.Changed.{change, change-same, change-other, change-case, by-equal}
 use Rattle.shapes.specs.declared.Update.{Update}
 use Rattle.shapes.specs.declared.Filling.{Filling}
-use Rattle.shapes.specs.declared.MaybeNode.the-variants.{At}
 use Rattle.tables.specs.Names.{node}
 use Rattle.tables.specs.Records.{undecided, trying, committed, aborted}
 use Rattle.sound.specs.Meaning.{entryOf}
 use Rattle.views.specs.View.{View, wRecord}
 use Rattle.protocol.specs.Ghost.{Ghost, oldOf, Filled, InList, Passed, KnownWord, Seen, Final}
-use Rattle.protocol.specs.Invariant.{Planted, Held, Copied, RecordHolds, Holds}
+use Rattle.protocol.specs.Invariant.{Lists, Makes, Planted, Held, Copied, RecordHolds, Holds}
 
 abbrev pub gFilled : Ghost → ℕ → Ghost
 gFilled G r = record { stamp = change (G .stamp) r (G .next); next = suc (G .next); froze = G .froze; tried = G .tried; linked = G .linked; maker = G .maker; owner = G .owner }
@@ -23,20 +22,10 @@ pub record Fills (X : View) (G : Ghost) (r : ℕ) (f : Filling) : Type 0 where
   pub used : r < X .records
   pub empty : X .filling r .count ≡ 0
   pub other : r ≢ 0
-  pub two : 2 ≤ f .count
-  pub most-listed : f .count ≤ 4
   pub final : (j : ℕ) → 1 ≤ j → j ≤ f .count → Final X (entryOf f j .old)
   pub seen : (j : ℕ) → 1 ≤ j → j ≤ f .count → Seen X G (entryOf f j .node .0) (entryOf f j .old)
-  pub first : entryOf f 1 .node .0 ≡ f .par .0
-  pub second : entryOf f 2 .node .0 ≡ f .old .0
-  pub linked : (j : ℕ) → 1 ≤ j → j ≤ f .count → G .linked (entryOf f j .node .0) ≡ true
-  pub apart : (i j : ℕ) → 1 ≤ i → i ≤ f .count → 1 ≤ j → j ≤ f .count → entryOf f i .node .0 ≡ entryOf f j .node .0 → i ≡ j
-  pub inner : X .fixed (f .par .0) .kind ≡ 1
-  pub old-phase : X .fixed (f .old .0) .phase ≤ f .seq .0
-  pub new-used : f .new .0 < X .nodes
-  pub made : G .maker (f .new .0) ≡ r
-  pub prev : X .fixed (f .new .0) .prev ≡ At (node (f .old .0))
-  pub new-phase : X .fixed (f .new .0) .phase ≡ f .seq .0
+  pub lists : Lists (G .linked) (X .fixed) f
+  pub makes : Makes (X .nodes) (G .maker) (X .fixed) r f
   pub fresh : G .linked (f .new .0) ≡ false
   pub kind : Planted (wRecord X r undecided f) (gFilled G r) r f ⊎ Copied (wRecord X r undecided f) (gFilled G r) r f
 
@@ -105,18 +94,8 @@ module _ (X : View) (G : Ghost) (H : Holds X G) (r : ℕ) (f : Filling) (F : Fil
     most = rw (change-same (X .state) r undecided) (omega arith);
     commits = λ e. let z : undecided ≡ committed = sym (change-same (X .state) r undecided) ∙ e in absurd (omega arith);
     aborts = λ e. let z : undecided ≡ aborted = sym (change-same (X .state) r undecided) ∙ e in absurd (omega arith);
-    two = F .two;
-    most-listed = F .most-listed;
-    first = F .first;
-    second = F .second;
-    linked = λ j i. F .linked j (i .low) (i .high);
-    apart = λ a b i k. F .apart a b (i .low) (i .high) (k .low) (k .high);
-    inner = F .inner;
-    old-phase = F .old-phase;
-    new-used = F .new-used;
-    made = F .made;
-    prev = F .prev;
-    new-phase = F .new-phase;
+    lists = F .lists;
+    makes = F .makes;
     fresh = λ _. F .fresh;
     kind = F .kind;
   }
@@ -143,7 +122,7 @@ module _ (X : View) (G : Ghost) (H : Holds X G) (r : ℕ) (f : Filling) (F : Fil
     held-was j h = record { open′ = h .open′; word = elim (h .word) [ inl e ↦ inl e | inr p ↦ inr (p .0, rw (state-same q ne) at (p .1)) ] }
 
     other-kind : Planted X G q (X .filling q) ⊎ Copied X G q (X .filling q) → Planted X′ G′ q (X .filling q) ⊎ Copied X′ G′ q (X .filling q)
-    other-kind (inl p) = inl (record { left = p .left; right = p .right; inner = p .inner; kids = p .kids; leaf-left = p .leaf-left; leaf-right = p .leaf-right; phase-left = p .phase-left; phase-right = p .phase-right; no-prev = p .no-prev; used = p .used; made = p .made; fresh = p .fresh; differ = p .differ })
+    other-kind (inl p) = inl p
     other-kind (inr c) = inr (record { four = c .four; side = c .side; inner = c .inner; sibling = λ h. c .sibling (held-was 2 h); copy = λ e h. c .copy e (held-was 4 h); kind = c .kind; phase = c .phase })
 
     other : RecordHolds X′ G′ q (X .filling q)
@@ -160,18 +139,8 @@ module _ (X : View) (G : Ghost) (H : Holds X G) (r : ℕ) (f : Filling) (F : Fil
       most = rw (state-same q ne) (was .most);
       commits = λ e. was .commits (sym (state-same q ne) ∙ e);
       aborts = λ e t. let h = was .aborts (sym (state-same q ne) ∙ e) t in record { at = h .at; list = h .list; before = h .before; not = h .not; gone = passed′ (h .at) (h .list) (h .gone) };
-      two = was .two;
-      most-listed = was .most-listed;
-      first = was .first;
-      second = was .second;
-      linked = was .linked;
-      apart = was .apart;
-      inner = was .inner;
-      old-phase = was .old-phase;
-      new-used = was .new-used;
-      made = was .made;
-      prev = was .prev;
-      new-phase = was .new-phase;
+      lists = was .lists;
+      makes = was .makes;
       fresh = was .fresh;
       kind = other-kind (was .kind);
     }
@@ -182,10 +151,10 @@ module _ (X : View) (G : Ghost) (H : Holds X G) (r : ℕ) (f : Filling) (F : Fil
         (λ e. rw e (subst (RecordHolds X′ G′ r) (sym mine) own))
         (λ e. subst (RecordHolds X′ G′ q) (sym (same q e)) (other q (filled-was q e g)));
     unfilled = λ q l e. by-equal q r
-        (λ d. let z : f .count ≡ 0 = ap (λ (h : Filling). h .count) (sym mine) ∙ (rw d at e) in absurd (omega (arith, F .two)))
+        (λ d. let z : f .count ≡ 0 = ap (λ (h : Filling). h .count) (sym mine) ∙ (rw d at e) in absurd (omega (arith, F .lists .two)))
         (λ d. state-same q d ∙ H .unfilled q l (ap (λ (h : Filling). h .count) (sym (same q d)) ∙ e));
     blank = λ q n.
-        let d : q ≢ r = λ e. n (rw e (record { used = F .used; some = rw mine (omega (arith, F .two)) })) in
+        let d : q ≢ r = λ e. n (rw e (record { used = F .used; some = rw mine (omega (arith, F .lists .two)) })) in
         let was = H .blank q (λ g. n (filled′ q g)) in (stamp-same q d ∙ was .0, was .1, was .2);
     dummy = (H .dummy .0, ap (λ (h : Filling). h .count) (same 0 (λ e. F .other (sym e))) ∙ H .dummy .1);
     stamps = λ q. change-case (λ s. s < suc (G .next)) (G .stamp) r (G .next) q (λ e. omega arith) (λ e. omega (arith, H .stamps q));

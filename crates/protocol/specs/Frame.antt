@@ -67,16 +67,16 @@ module _ (X X′ : View) (G G′ : Ghost) (P : ℕ → Type 0) (H : Holds X G) (
     was = H .records q g
 
     node-linked : (j : ℕ) → InList (X .filling q) j → P (nodeOf (X .filling q) j)
-    node-linked j i = A .of-linked _ (was .linked j i)
+    node-linked j i = A .of-linked _ (was .lists .linked j i)
 
     par-kept : P (parOf (X .filling q))
-    par-kept = rw (← was .first) (node-linked 1 (record { low = omega arith; high = omega (arith, was .two) }))
+    par-kept = rw (← was .lists .first) (node-linked 1 (record { low = omega arith; high = omega (arith, was .lists .two) }))
 
     old-kept : P (oldChildOf (X .filling q))
-    old-kept = rw (← was .second) (node-linked 2 (record { low = omega arith; high = was .two }))
+    old-kept = rw (← was .lists .second) (node-linked 2 (record { low = omega arith; high = was .lists .two }))
 
     new-kept : P (newChildOf (X .filling q))
-    new-kept = A .of-record q _ g (was .made) (was .new-used)
+    new-kept = A .of-record q _ g (was .makes .made) (was .makes .new-used)
 
     side-same : sideOf X′ (X .filling q) ≡ sideOf X (X .filling q)
     side-same = ap₂ (λ (a b : Fixed). ltb (value (a .rank)) (value (b .rank))) (A .fixed _ new-kept) (A .fixed _ par-kept)
@@ -88,7 +88,7 @@ module _ (X X′ : View) (G G′ : Ghost) (P : ℕ → Type 0) (H : Holds X G) (
     state-same = A .state q (g .used)
 
     pub word-same : (j : ℕ) → InList (X .filling q) j → X′ .update (nodeOf (X .filling q) j) ≡ X .update (nodeOf (X .filling q) j)
-    word-same j i = A .update _ (H .used _ (was .linked j i))
+    word-same j i = A .update _ (H .used _ (was .lists .linked j i))
 
     held-was : (j : ℕ) → InList (X .filling q) j → Held X′ q (X .filling q) j → Held X q (X .filling q) j
     held-was j i h = record { open′ = sym link-same ∙ h .open′; word = elim (h .word) [ inl e ↦ inl (sym (word-same j i) ∙ e) | inr p ↦ inr (ap (λ (w : Update). w .info .0) (sym (word-same j i)) ∙ p .0, rw state-same at (p .1)) ] }
@@ -142,18 +142,8 @@ module _ (X X′ : View) (G G′ : Ghost) (P : ℕ → Type 0) (H : Holds X G) (
       most = rw state-same (was .most);
       commits = λ e. let c = was .commits (sym state-same ∙ e) in (rw (A .tried) (c .0), (λ i l. rw (A .froze) (c .1 i l)), λ d. c .2 (sym link-same ∙ d));
       aborts = λ e t. lost′ (was .aborts (sym state-same ∙ e) (rw (A .tried) at t));
-      two = was .two;
-      most-listed = was .most-listed;
-      first = was .first;
-      second = was .second;
-      linked = λ j i. rw (A .linked) (was .linked j i);
-      apart = was .apart;
-      inner = rw (A .fixed _ par-kept) (was .inner);
-      old-phase = rw (A .fixed _ old-kept) (was .old-phase);
-      new-used = omega (arith, was .new-used, A .nodes);
-      made = A .maker _ new-kept ∙ was .made;
-      prev = rw (A .fixed _ new-kept) (was .prev);
-      new-phase = rw (A .fixed _ new-kept) (was .new-phase);
+      lists = let l = was .lists in record { two = l .two; most-listed = l .most-listed; first = l .first; second = l .second; linked = λ j i. rw (A .linked) (l .linked j i); apart = l .apart; inner = rw (A .fixed _ par-kept) (l .inner); old-phase = rw (A .fixed _ old-kept) (l .old-phase) };
+      makes = let m = was .makes in record { new-used = omega (arith, m .new-used, A .nodes); made = A .maker _ new-kept ∙ m .made; prev = rw (A .fixed _ new-kept) (m .prev); new-phase = rw (A .fixed _ new-kept) (m .new-phase) };
       fresh = λ h. rw (A .linked) (was .fresh (sym link-same ∙ h));
       kind = kind′ (was .kind);
     }

@@ -83,7 +83,7 @@ module _ (X : View) (G : Ghost) (H : Holds X G) (r j m : ℕ) (f : Filled X r) (
       here e (inr p) = inl (subst (λ y. nodeOf (X .filling y) k ≡ x → InList (X .filling y) k → X .update (nodeOf (X .filling y) k) ≡ oldOf (X .filling y) k) (p .0) own e i)
         where
           own : nodeOf (X .filling r) k ≡ x → InList (X .filling r) k → X .update (nodeOf (X .filling r) k) ≡ oldOf (X .filling r) k
-          own d i′ = let same : k ≡ j = R .apart k j i′ l d in rw same hit
+          own d i′ = let same : k ≡ j = R .lists .apart k j i′ l d in rw same hit
 
   record′ : (q : ℕ) → Filled X′ q → RecordHolds X′ G′ q (X .filling q)
   record′ q g =
@@ -92,7 +92,7 @@ module _ (X : View) (G : Ghost) (H : Holds X G) (r j m : ℕ) (f : Filled X r) (
         old-final = λ k i. was .old-final k i;
         old-seen = λ k i. seen′ _ _ (was .old-seen k i);
         old-stamp = λ k i. was .old-stamp k i;
-        frozen = λ v h. elim (froze-was G r x q v h) [ inl p ↦ was .frozen v p | inr p ↦ rw (p .1) (H .used x (R .linked j l)) ];
+        frozen = λ v h. elim (froze-was G r x q v h) [ inl p ↦ was .frozen v p | inr p ↦ rw (p .1) (H .used x (R .lists .linked j l)) ];
         in-order = λ v h. elim (froze-was G r x q v h) [
           | inl p ↦ froze-more G r x q _ (was .in-order v p)
           | inr p ↦ elim order [
@@ -119,18 +119,8 @@ module _ (X : View) (G : Ghost) (H : Holds X G) (r j m : ℕ) (f : Filled X r) (
         most = was .most;
         commits = λ e. let c = was .commits e in (c .0, (λ k i. froze-more G r x q _ (c .1 k i)), c .2);
         aborts = λ e t. by-equal q r (λ d. let z : X .state r ≡ aborted = rw d at e in absurd (omega (arith, live))) (λ d. lost′ d (was .aborts e t));
-        two = was .two;
-        most-listed = was .most-listed;
-        first = was .first;
-        second = was .second;
-        linked = λ k i. was .linked k i;
-        apart = λ a b i k. was .apart a b i k;
-        inner = was .inner;
-        old-phase = was .old-phase;
-        new-used = was .new-used;
-        made = was .made;
-        prev = was .prev;
-        new-phase = was .new-phase;
+        lists = was .lists;
+        makes = was .makes;
         fresh = was .fresh;
         kind = kind′ (was .kind);
       }
@@ -139,7 +129,7 @@ module _ (X : View) (G : Ghost) (H : Holds X G) (r j m : ℕ) (f : Filled X r) (
       lost′ ne h = record { at = h .at; list = h .list; before = λ k a b. froze-more G r x q _ (h .before k a b); not = ap (λ f. f (nodeOf (X .filling q) (h .at))) (change-other (G .froze) r _ q ne) ∙ h .not; gone = passed′ q _ (h .gone) }
 
       kind′ : Planted X G q (X .filling q) ⊎ Copied X G q (X .filling q) → Planted X′ G′ q (X .filling q) ⊎ Copied X′ G′ q (X .filling q)
-      kind′ (inl p) = inl (record { left = p .left; right = p .right; inner = p .inner; kids = p .kids; leaf-left = p .leaf-left; leaf-right = p .leaf-right; phase-left = p .phase-left; phase-right = p .phase-right; no-prev = p .no-prev; used = p .used; made = p .made; fresh = p .fresh; differ = p .differ })
+      kind′ (inl p) = inl p
       kind′ (inr c) = inr (record {
         four = c .four;
         side = c .side;

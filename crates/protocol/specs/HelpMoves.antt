@@ -97,7 +97,7 @@ module _ (w : ℕ) (s : Tables) (h : TablesSound s) (G : Ghost) (H : Holds (view
   module _ (i : ℕ) (a : AtPlace (view s) G r i) where
     entry-is : entryAt (s .records) (recordNo r) i ≡ entryOf (view s .filling r) i
     unfolding view
-    entry-is = by i (a .list .low) (let b = a .list .high in let c = R .most-listed in omega arith)
+    entry-is = by i (a .list .low) (let b = a .list .high in let c = R .lists .most-listed in omega arith)
       where
         by : (j : ℕ) → 1 ≤ j → j ≤ 4 → entryAt (s .records) (recordNo r) j ≡ entryOf (fillingAt (s .records) (recordNo r)) j
         by zero x y = absurd (omega arith)
@@ -107,7 +107,7 @@ module _ (w : ℕ) (s : Tables) (h : TablesSound s) (G : Ghost) (H : Holds (view
     entry = entryOf (view s .filling r) i
 
     row117 : nodeOf (view s .filling r) i < s .totals .n
-    row117 = node-row _ (R .linked i (a .list))
+    row117 = node-row _ (R .lists .linked i (a .list))
 
     hits117 : sameUpdate (updateAt (s .nodes) (entry .node)) (entry .old) ≡ true → Moved (help.Goes (effect.Freeze (entry .node) (update (entry .mark) (recordNo r))) i Frozen119)
     unfolding apply view
@@ -138,7 +138,7 @@ module _ (w : ℕ) (s : Tables) (h : TablesSound s) (G : Ghost) (H : Holds (view
 
   -- lines 123 to 126
   row123 : parOf (view s .filling r) < s .totals .n
-  row123 = node-row _ (rw (← R .first) (R .linked 1 (record { low = omega arith; high = let t = R .two in omega arith })))
+  row123 = node-row _ (rw (← R .lists .first) (R .lists .linked 1 (record { low = omega arith; high = let t = R .lists .two in omega arith })))
 
   abbrev left : Bool
   left = ltb (keyAt (s .nodes) (newChildAt (s .records) (recordNo r))) (keyAt (s .nodes) (parAt (s .records) (recordNo r)))

@@ -39,7 +39,7 @@ module _ (w : ℕ) (X : View) (G : Ghost) (H : Holds X G) (r : ℕ) (s : Shown X
   seen-by-some u = true≢false (sym (s .first) ∙ u (nodeOf (X .filling r) 1))
 
   second-in : InList (X .filling r) 2
-  second-in = record { low = omega arith; high = R .two }
+  second-in = record { low = omega arith; high = R .lists .two }
 
   -- a turn that only reads
   pub stays : (i : ℕ) (b : HelpStep) → At X G r i b → Helped w X X G r i b
@@ -120,7 +120,7 @@ module _ (w : ℕ) (X : View) (G : Ghost) (H : Holds X G) (r : ℕ) (s : Shown X
     -- line 119
     mine : X .update (nodeOf (X .filling r) i) .info .0 ≡ r → G .froze r (nodeOf (X .filling r) i) ≡ true
     mine e =
-        let used : nodeOf (X .filling r) i < X .nodes = H .used _ (R .linked i (a .list)) in
+        let used : nodeOf (X .filling r) i < X .nodes = H .used _ (R .lists .linked i (a .list)) in
         let not-dummy : X .update (nodeOf (X .filling r) i) .info .0 ≢ 0 = λ z. let zero-r : r ≡ 0 = sym e ∙ z in (let none : X .filling r .count ≡ 0 = rw zero-r (H .dummy .1) in omega (arith, s .filled .some)) in
         rw e at (H .words _ used .1 not-dummy)
 

@@ -73,20 +73,19 @@ module _ (w : ℕ) (X : View) (G : Ghost) (H : Holds X G) (v : Locals) (h : Inse
     used = h .taken .used;
     empty = h .taken .empty;
     other = h .taken .other;
-    two = omega arith;
-    most-listed = omega arith;
     final = each (λ x u. Final X u) (h .pup .final) (lup .final);
     seen = each (λ x u. Seen X G x u) (h .pup .seen) (lup .seen);
-    first = refl;
-    second = refl;
-    linked = each (λ x u. G .linked x ≡ true) (h .p-linked) (h .l-linked);
-    apart = apart;
-    inner = h .inner;
-    old-phase = h .phase;
-    new-used = h .plants .made .used;
-    made = h .plants .made .maker;
-    prev = h .plants .new-top .prev;
-    new-phase = h .plants .new-top .phase;
+    lists = record {
+      two = omega arith;
+      most-listed = omega arith;
+      first = refl;
+      second = refl;
+      linked = λ j i. each (λ x u. G .linked x ≡ true) (h .p-linked) (h .l-linked) j (i .low) (i .high);
+      apart = λ i j a b. apart i j (a .low) (a .high) (b .low) (b .high);
+      inner = h .inner;
+      old-phase = h .phase;
+    };
+    makes = record { new-used = h .plants .made .used; made = h .plants .made .maker; prev = h .plants .new-top .prev; new-phase = h .plants .new-top .phase };
     fresh = h .plants .made .fresh;
     kind = inl (planted X G (v .info .0) (insertFilling v) (h .plants));
   }

@@ -6,27 +6,52 @@ use mathlib.Core.Bool.{Bool, true, false}
 use Rattle.shapes.specs.declared.Filling.{Filling}
 use Rattle.shapes.specs.declared.MaybeNode.the-variants.{Absent, At}
 use Rattle.tables.specs.Names.{node}
+use Rattle.tables.specs.NodeWrites.{Fixed}
 use Rattle.tables.specs.Records.{trying, committed, aborted}
 use Rattle.views.specs.View.{View}
 use Rattle.protocol.specs.Ghost.{Ghost, nodeOf, oldOf, parOf, oldChildOf, newChildOf, seqOf, linkOf, Filled, InList, Past, FrozeAll, Lost, Live, KnownWord, Seen, Final}
 
 -- ---- a filled record
 
+-- The clauses that do not speak of words, states or what was frozen are of parts of a view and of a ghost: where those parts stay,
+-- the clauses are the same.
+
+-- its nodes: of what is linked, and of the fixed fields of nodes
+pub record Lists (isLinked : ℕ → Bool) (fixed : ℕ → Fixed) (f : Filling) : Type 0 where
+  pub two : 2 ≤ f .count
+  pub most-listed : f .count ≤ 4
+  pub first : nodeOf f 1 ≡ parOf f
+  pub second : nodeOf f 2 ≡ oldChildOf f
+  pub linked : (j : ℕ) → InList f j → isLinked (nodeOf f j) ≡ true
+  pub apart : (i j : ℕ) → InList f i → InList f j → nodeOf f i ≡ nodeOf f j → i ≡ j
+  pub inner : fixed (parOf f) .kind ≡ 1
+  pub old-phase : fixed (oldChildOf f) .phase ≤ seqOf f
+
+-- its new child: of the nodes used, their makers and their fixed fields
+pub record Makes (nodes : ℕ) (maker : ℕ → ℕ) (fixed : ℕ → Fixed) (r : ℕ) (f : Filling) : Type 0 where
+  pub new-used : newChildOf f < nodes
+  pub made : maker (newChildOf f) ≡ r
+  pub prev : fixed (newChildOf f) .prev ≡ At (node (oldChildOf f))
+  pub new-phase : fixed (newChildOf f) .phase ≡ seqOf f
+
 -- what hangs below the new child of an insert: two leaves, made with it
-pub record Planted (X : View) (G : Ghost) (r : ℕ) (f : Filling) : Type 0 where
+pub record PlantedIn (nodes : ℕ) (fixed : ℕ → Fixed) (kid : Bool → ℕ → ℕ) (isLinked : ℕ → Bool) (maker : ℕ → ℕ) (r : ℕ) (f : Filling) : Type 0 where
   pub left : ℕ
   pub right : ℕ
-  pub inner : X .fixed (newChildOf f) .kind ≡ 1
-  pub kids : G .linked (newChildOf f) ≡ false → (X .kid true (newChildOf f) ≡ left) × (X .kid false (newChildOf f) ≡ right)
-  pub leaf-left : X .fixed left .kind ≡ 0
-  pub leaf-right : X .fixed right .kind ≡ 0
-  pub phase-left : X .fixed left .phase ≡ seqOf f
-  pub phase-right : X .fixed right .phase ≡ seqOf f
-  pub no-prev : (X .fixed left .prev ≡ Absent) × (X .fixed right .prev ≡ Absent)
-  pub used : (left < X .nodes) × (right < X .nodes)
-  pub made : (G .maker left ≡ r) × (G .maker right ≡ r)
-  pub fresh : G .linked (newChildOf f) ≡ false → (G .linked left ≡ false) × (G .linked right ≡ false)
+  pub inner : fixed (newChildOf f) .kind ≡ 1
+  pub kids : isLinked (newChildOf f) ≡ false → (kid true (newChildOf f) ≡ left) × (kid false (newChildOf f) ≡ right)
+  pub leaf-left : fixed left .kind ≡ 0
+  pub leaf-right : fixed right .kind ≡ 0
+  pub phase-left : fixed left .phase ≡ seqOf f
+  pub phase-right : fixed right .phase ≡ seqOf f
+  pub no-prev : (fixed left .prev ≡ Absent) × (fixed right .prev ≡ Absent)
+  pub used : (left < nodes) × (right < nodes)
+  pub made : (maker left ≡ r) × (maker right ≡ r)
+  pub fresh : isLinked (newChildOf f) ≡ false → (isLinked left ≡ false) × (isLinked right ≡ false)
   pub differ : (left ≢ right) × (newChildOf f ≢ left) × (newChildOf f ≢ right)
+
+abbrev pub Planted : View → Ghost → ℕ → Filling → Type 0
+Planted X G = PlantedIn (X .nodes) (X .fixed) (X .kid) (G .linked) (G .maker)
 
 -- while its word, or the one it is to replace, stands at place j, and its child CAS is still to come
 pub record Held (X : View) (r : ℕ) (f : Filling) (j : ℕ) : Type 0 where
@@ -59,20 +84,9 @@ pub record RecordHolds (X : View) (G : Ghost) (r : ℕ) (f : Filling) : Type 0 w
   pub most : X .state r ≤ aborted
   pub commits : X .state r ≡ committed → (G .tried r ≡ true) × FrozeAll G r f × Past X f
   pub aborts : X .state r ≡ aborted → G .tried r ≡ true → Lost X G r f
-  -- its nodes
-  pub two : 2 ≤ f .count
-  pub most-listed : f .count ≤ 4
-  pub first : nodeOf f 1 ≡ parOf f
-  pub second : nodeOf f 2 ≡ oldChildOf f
-  pub linked : (j : ℕ) → InList f j → G .linked (nodeOf f j) ≡ true
-  pub apart : (i j : ℕ) → InList f i → InList f j → nodeOf f i ≡ nodeOf f j → i ≡ j
-  pub inner : X .fixed (parOf f) .kind ≡ 1
-  pub old-phase : X .fixed (oldChildOf f) .phase ≤ seqOf f
-  -- its new child
-  pub new-used : newChildOf f < X .nodes
-  pub made : G .maker (newChildOf f) ≡ r
-  pub prev : X .fixed (newChildOf f) .prev ≡ At (node (oldChildOf f))
-  pub new-phase : X .fixed (newChildOf f) .phase ≡ seqOf f
+  -- its nodes, and its new child
+  pub lists : Lists (G .linked) (X .fixed) f
+  pub makes : Makes (X .nodes) (G .maker) (X .fixed) r f
   pub fresh : linkOf X f ≡ oldChildOf f → G .linked (newChildOf f) ≡ false
   pub kind : Planted X G r f ⊎ Copied X G r f
 

@@ -45,16 +45,16 @@ module _ (X : View) (G : Ghost) (H : Holds X G) (r : ℕ) (f : Filled X r) (t : 
   stands j i = R .holds _ (all j i) live
 
   first-in : InList (X .filling r) 1
-  first-in = record { low = omega arith; high = omega (arith, R .two) }
+  first-in = record { low = omega arith; high = omega (arith, R .lists .two) }
 
   second-in : InList (X .filling r) 2
-  second-in = record { low = omega arith; high = R .two }
+  second-in = record { low = omega arith; high = R .lists .two }
 
   par-linked : G .linked (parOf (X .filling r)) ≡ true
-  par-linked = rw (← R .first) (R .linked 1 first-in)
+  par-linked = rw (← R .lists .first) (R .lists .linked 1 first-in)
 
   old-linked : G .linked (oldChildOf (X .filling r)) ≡ true
-  old-linked = rw (← R .second) (R .linked 2 second-in)
+  old-linked = rw (← R .lists .second) (R .lists .linked 2 second-in)
 
   pub new-fresh : G .linked (newChildOf (X .filling r)) ≡ false
   new-fresh = R .fresh hit
@@ -72,12 +72,12 @@ module _ (X : View) (G : Ghost) (H : Holds X G) (r : ℕ) (f : Filled X r) (t : 
   -- a node that another record holds is not this record's parent
   held-apart : (q k : ℕ) → Filled X q → InList (X .filling q) k → q ≢ r → (X .update (nodeOf (X .filling q) k) ≡ oldOf (X .filling q) k) ⊎ ((X .update (nodeOf (X .filling q) k) .info .0 ≡ q) × Live X q) → nodeOf (X .filling q) k ≢ parOf (X .filling r)
   held-apart q k g i ne (inl e) d =
-      let mine : X .update (nodeOf (X .filling q) k) .info .0 ≡ r = rw (d, ← R .first) (stands 1 first-in) in
+      let mine : X .update (nodeOf (X .filling q) k) .info .0 ≡ r = rw (d, ← R .lists .first) (stands 1 first-in) in
       let same : oldOf (X .filling q) k .info .0 ≡ r = ap (λ (w : Update). w .info .0) (sym e) ∙ mine in
       let final : committed ≤ X .state (oldOf (X .filling q) k .info .0) = H .records q g .old-final k i in
       let z : committed ≤ X .state r = rw same at final in
       omega (arith, live)
-  held-apart q k g i ne (inr p) d = let mine : X .update (nodeOf (X .filling q) k) .info .0 ≡ r = rw (d, ← R .first) (stands 1 first-in) in ne (sym (p .0) ∙ mine)
+  held-apart q k g i ne (inr p) d = let mine : X .update (nodeOf (X .filling q) k) .info .0 ≡ r = rw (d, ← R .lists .first) (stands 1 first-in) in ne (sym (p .0) ∙ mine)
 
   -- the child CAS of another record: past stays past, and what is still to come was
   pub past′ : (q : ℕ) → Filled X q → Past X (X .filling q) → Past X′ (X .filling q)
@@ -86,7 +86,7 @@ module _ (X : View) (G : Ghost) (H : Holds X G) (r : ℕ) (f : Filled X r) (t : 
       fresh-old : newChildOf (X .filling r) ≢ oldChildOf (X .filling q)
       fresh-old e =
           let Q = H .records q g in
-          let linked : G .linked (oldChildOf (X .filling q)) ≡ true = rw (← Q .second) (Q .linked 2 (record { low = omega arith; high = Q .two })) in
+          let linked : G .linked (oldChildOf (X .filling q)) ≡ true = rw (← Q .lists .second) (Q .lists .linked 2 (record { low = omega arith; high = Q .lists .two })) in
           apart (oldChildOf (X .filling q)) (newChildOf (X .filling r)) linked new-fresh e
 
   pub mine-past : Past X′ (X .filling r)
@@ -146,19 +146,9 @@ module _ (X : View) (G : Ghost) (H : Holds X G) (r : ℕ) (f : Filled X r) (t : 
           most = was .most;
           commits = λ e. let c = was .commits e in (c .0, (λ k i. c .1 k i), past′ q (filled-was q g) (c .2));
           aborts = λ e d. let h = was .aborts e d in record { at = h .at; list = h .list; before = h .before; not = h .not; gone = h .gone };
-          two = was .two;
-          most-listed = was .most-listed;
-          first = was .first;
-          second = was .second;
-          linked = λ k i. more _ (was .linked k i);
-          apart = λ a b i k. was .apart a b i k;
-          inner = was .inner;
-          old-phase = was .old-phase;
-          new-used = was .new-used;
-          made = was .made;
-          prev = was .prev;
-          new-phase = was .new-phase;
-          fresh = λ h. let o = open-was q (filled-was q g) h in unlinked′ q (newChildOf (X .filling q)) (o .0) (was .made) (was .fresh (o .1));
+          lists = let l = was .lists in record { two = l .two; most-listed = l .most-listed; first = l .first; second = l .second; linked = λ k i. more _ (l .linked k i); apart = l .apart; inner = l .inner; old-phase = l .old-phase };
+          makes = was .makes;
+          fresh = λ h. let o = open-was q (filled-was q g) h in unlinked′ q (newChildOf (X .filling q)) (o .0) (was .makes .made) (was .fresh (o .1));
           kind = kind′ was (was .kind);
         }
       where
@@ -190,7 +180,7 @@ module _ (X : View) (G : Ghost) (H : Holds X G) (r : ℕ) (f : Filled X r) (t : 
           inner = c .inner;
           sibling = λ h.
               let o = held-was q 2 (filled-was q g) h in
-              let off : oldChildOf (X .filling q) ≢ parOf (X .filling r) = λ e. held-apart q 2 (filled-was q g) (record { low = omega arith; high = omega (arith, c .four) }) (o .0) (h .word) (was .second ∙ e) in
+              let off : oldChildOf (X .filling q) ≢ parOf (X .filling r) = λ e. held-apart q 2 (filled-was q g) (record { low = omega arith; high = omega (arith, c .four) }) (o .0) (h .word) (was .lists .second ∙ e) in
               kid-other (X .kid) (sideOf X (X .filling r)) (parOf (X .filling r)) (newChildOf (X .filling r)) (c .side) (oldChildOf (X .filling q)) off ∙ c .sibling (o .1);
           copy = λ e h s.
               let o = held-was q 4 (filled-was q g) h in

@@ -38,7 +38,7 @@ module _ (w : ℕ) (X : View) (G : Ghost) (H : Holds X G) (r : ℕ) (g : Filled 
   fresh = R .fresh hit
 
   par-linked : G .linked (parOf (X .filling r)) ≡ true
-  par-linked = rw (← R .first) (R .linked 1 (record { low = omega arith; high = omega (arith, R .two) }))
+  par-linked = rw (← R .lists .first) (R .lists .linked 1 (record { low = omega arith; high = omega (arith, R .lists .two) }))
 
   off-parent : newChildOf (X .filling r) ≢ parOf (X .filling r)
   off-parent e = true≢false (sym par-linked ∙ rw e at fresh)
@@ -47,10 +47,10 @@ module _ (w : ℕ) (X : View) (G : Ghost) (H : Holds X G) (r : ℕ) (g : Filled 
   held j i = record { open′ = hit; word = inr (linking.stands X G H r g t all hit j i, linking.live X G H r g t all hit) }
 
   replaces : X .fixed (newChildOf (X .filling r)) .prev ≡ At (node (linkOf X (X .filling r)))
-  replaces = R .prev ∙ ap (λ n. At (node n)) (sym hit)
+  replaces = R .makes .prev ∙ ap (λ n. At (node n)) (sym hit)
 
   old-phase : X .fixed (linkOf X (X .filling r)) .phase ≤ X .fixed (newChildOf (X .filling r)) .phase
-  old-phase = rw (hit, R .new-phase) (R .old-phase)
+  old-phase = rw (hit, R .makes .new-phase) (R .lists .old-phase)
 
   -- ---- it fits
 
@@ -63,7 +63,7 @@ module _ (w : ℕ) (X : View) (G : Ghost) (H : Holds X G) (r : ℕ) (g : Filled 
         other = off-parent;
         inner = kind-inner _ (p .inner);
         leaves = λ e. by (λ n. leafOf (X .fixed n) ≡ true) kids (kind-leaf _ (p .leaf-left)) (kind-leaf _ (p .leaf-right)) e;
-        phases = λ e. by (λ n. X .fixed n .phase ≤ X .fixed (newChildOf (X .filling r)) .phase) kids (rw (p .phase-left, R .new-phase) (omega arith)) (rw (p .phase-right, R .new-phase) (omega arith)) e;
+        phases = λ e. by (λ n. X .fixed n .phase ≤ X .fixed (newChildOf (X .filling r)) .phase) kids (rw (p .phase-left, R .makes .new-phase) (omega arith)) (rw (p .phase-right, R .makes .new-phase) (omega arith)) e;
         apart = λ e. p .differ .0 (sym (kids .0) ∙ e ∙ kids .1);
         proper = λ e. by (λ n. newChildOf (X .filling r) ≢ n) kids (p .differ .1) (p .differ .2) e;
         fresh = fresh;
@@ -84,7 +84,7 @@ module _ (w : ℕ) (X : View) (G : Ghost) (H : Holds X G) (r : ℕ) (g : Filled 
         inner = rw hit (kind-inner _ (c .inner));
         sibling = rw hit (c .sibling (held 2 two));
         phase-old = old-phase;
-        phase-sibling = rw (R .new-phase) (c .phase);
+        phase-sibling = rw (R .makes .new-phase) (c .phase);
         leaf = kinds (c .kind);
         kids = λ h. c .copy (inner-kind _ h) (held 4 four);
         fresh = fresh;
@@ -112,14 +112,14 @@ module _ (w : ℕ) (X : View) (G : Ghost) (H : Holds X G) (r : ℕ) (g : Filled 
   not-both b t f = absurd (true≢false (sym t ∙ f))
 
   old-linked : G .linked (oldChildOf (X .filling r)) ≡ true
-  old-linked = rw (← R .second) (R .linked 2 (record { low = omega arith; high = R .two }))
+  old-linked = rw (← R .lists .second) (R .lists .linked 2 (record { low = omega arith; high = R .lists .two }))
 
   new-kid : (s : Bool) → changeOn (X .kid) (sideOf X (X .filling r)) (parOf (X .filling r)) (newChildOf (X .filling r)) s (newChildOf (X .filling r)) ≡ X .kid s (newChildOf (X .filling r))
   new-kid s = kid-other (X .kid) (sideOf X (X .filling r)) (parOf (X .filling r)) (newChildOf (X .filling r)) s (newChildOf (X .filling r)) off-parent
 
   prev-is : (y : ℕ) → X .fixed (newChildOf (X .filling r)) .prev ≡ At (node y) → y ≡ oldChildOf (X .filling r)
   prev-is y e =
-      let same : At (node y) ≡ At (node (oldChildOf (X .filling r))) = sym e ∙ R .prev in
+      let same : At (node y) ≡ At (node (oldChildOf (X .filling r))) = sym e ∙ R .makes .prev in
       let named : _≡_ {A = NodeNo} (node y) (node (oldChildOf (X .filling r))) = cc in
       ap (λ (x : NodeNo). x .0) named
 
@@ -149,10 +149,10 @@ module _ (w : ℕ) (X : View) (G : Ghost) (H : Holds X G) (r : ℕ) (g : Filled 
       more n h = linked-more (G .linked) _ n h
 
       only : (n : ℕ) → G .maker n ≢ r → L n ≡ G .linked n
-      only n ne = change-other (G .linked) _ true n (λ e. ne (rw e (R .made)))
+      only n ne = change-other (G .linked) _ true n (λ e. ne (rw e (R .makes .made)))
 
       used′ : (n : ℕ) → L n ≡ true → n < X .nodes
-      used′ n h = elim (linked-was (G .linked) _ n h) [ inl e ↦ rw e (R .new-used) | inr k ↦ H .used n k ]
+      used′ n h = elim (linked-was (G .linked) _ n h) [ inl e ↦ rw e (R .makes .new-used) | inr k ↦ H .used n k ]
 
       four : InList (X .filling r) 4
       four = record { low = omega arith; high = omega (arith, c .four) }
@@ -161,7 +161,7 @@ module _ (w : ℕ) (X : View) (G : Ghost) (H : Holds X G) (r : ℕ) (g : Filled 
       kids′ n h u k s = elim (linked-was (G .linked) _ n h) [
         | inl e ↦
             let inner : X .fixed (nodeOf (X .filling r) 4) .kind ≡ 1 = sym (c .kind) ∙ rw e at k in
-            rw (e, new-kid s, c .copy inner (held 4 four) s) (more _ (H .kids _ (R .linked 4 four) inner s))
+            rw (e, new-kid s, c .copy inner (held 4 four) s) (more _ (H .kids _ (R .lists .linked 4 four) inner s))
         | inr d ↦ not-both _ d u
       ]
 
@@ -193,7 +193,7 @@ module _ (w : ℕ) (X : View) (G : Ghost) (H : Holds X G) (r : ℕ) (g : Filled 
       was n h = elim (linked-was L2 _ n h) [ inl e ↦ inl e | inr k ↦ elim (linked-was L1 _ n k) [ inl e ↦ inr (inl e) | inr m ↦ elim (linked-was (G .linked) _ n m) [ inl e ↦ inr (inr (inl e)) | inr d ↦ inr (inr (inr d)) ] ] ]
 
       only : (n : ℕ) → G .maker n ≢ r → L n ≡ G .linked n
-      only n ne = change-other L2 _ true n (λ e. ne (rw e (p .made .1))) ∙ change-other L1 _ true n (λ e. ne (rw e (p .made .0))) ∙ change-other (G .linked) _ true n (λ e. ne (rw e (R .made)))
+      only n ne = change-other L2 _ true n (λ e. ne (rw e (p .made .1))) ∙ change-other L1 _ true n (λ e. ne (rw e (p .made .0))) ∙ change-other (G .linked) _ true n (λ e. ne (rw e (R .makes .made)))
 
       now : L (newChildOf (X .filling r)) ≡ true
       now = linked-more L2 _ _ (linked-more L1 _ _ (change-same (G .linked) _ true))
@@ -205,7 +205,7 @@ module _ (w : ℕ) (X : View) (G : Ghost) (H : Holds X G) (r : ℕ) (g : Filled 
       right-now = change-same L2 _ true
 
       used′ : (n : ℕ) → L n ≡ true → n < X .nodes
-      used′ n h = elim (was n h) [ inl e ↦ rw e (p .used .1) | inr (inl e) ↦ rw e (p .used .0) | inr (inr (inl e)) ↦ rw e (R .new-used) | inr (inr (inr d)) ↦ H .used n d ]
+      used′ n h = elim (was n h) [ inl e ↦ rw e (p .used .1) | inr (inl e) ↦ rw e (p .used .0) | inr (inr (inl e)) ↦ rw e (R .makes .new-used) | inr (inr (inr d)) ↦ H .used n d ]
 
       new-kids : (s : Bool) → L (X .kid s (newChildOf (X .filling r))) ≡ true
       new-kids true = rw (p .kids fresh .0) left-now

@@ -37,7 +37,7 @@ fill102 w X G H r f F mine = record {
   rely = rely-fill w X G H r f F mine;
   trees = inl (record { fixed = λ n u. refl; kid = λ e n u. refl });
   knows = record {
-    filled = record { used = F .used; some = rw (change-same (X .filling) r f) (omega (arith, F .two)) };
+    filled = record { used = F .used; some = rw (change-same (X .filling) r f) (omega (arith, F .lists .two)) };
     unseen = H .blank r (λ g. (let z = F .empty in omega (arith, g .some))) .2;
     mine = mine;
     open′ = change-same (X .state) r undecided;
@@ -50,7 +50,7 @@ module _ (w : ℕ) (X : View) (G : Ghost) (H : Holds X G) (r : ℕ) (h : Own w X
   R = H .records r (h .filled)
 
   first-in : InList (X .filling r) 1
-  first-in = record { low = omega arith; high = omega (arith, R .two) }
+  first-in = record { low = omega arith; high = omega (arith, R .lists .two) }
 
   live : Live X r
   live = let e = h .open′ in omega arith

@@ -122,11 +122,11 @@ counter-holds X G c H = record {
     seen′ v u h = record { used = h .used; known = elim (h .known) [ inl e ↦ inl e | inr f ↦ inr (record { used = f .used; some = f .some }) ]; since = h .since; mine = h .mine }
 
     kind′ : (r : ℕ) → Planted X G r (X .filling r) ⊎ Copied X G r (X .filling r) → Planted (wCounter X c) G r (X .filling r) ⊎ Copied (wCounter X c) G r (X .filling r)
-    kind′ r (inl p) = inl (record { left = p .left; right = p .right; inner = p .inner; kids = p .kids; leaf-left = p .leaf-left; leaf-right = p .leaf-right; phase-left = p .phase-left; phase-right = p .phase-right; no-prev = p .no-prev; used = p .used; made = p .made; fresh = p .fresh; differ = p .differ })
+    kind′ r (inl p) = inl p
     kind′ r (inr d) = inr (record { four = d .four; side = d .side; inner = d .inner; sibling = λ h. d .sibling (record { open′ = h .open′; word = h .word }); copy = λ e h. d .copy e (record { open′ = h .open′; word = h .word }); kind = d .kind; phase = d .phase })
 
     again : (r : ℕ) → RecordHolds X G r (X .filling r) → RecordHolds (wCounter X c) G r (X .filling r)
-    again r was = record { old-final = was .old-final; old-seen = λ j i. seen′ _ _ (was .old-seen j i); old-stamp = was .old-stamp; frozen = was .frozen; in-order = was .in-order; later = was .later; holds = was .holds; tried-state = was .tried-state; trying-tried = was .trying-tried; most = was .most; commits = was .commits; aborts = λ e t. let h = was .aborts e t in record { at = h .at; list = h .list; before = h .before; not = h .not; gone = h .gone }; two = was .two; most-listed = was .most-listed; first = was .first; second = was .second; linked = was .linked; apart = was .apart; inner = was .inner; old-phase = was .old-phase; new-used = was .new-used; made = was .made; prev = was .prev; new-phase = was .new-phase; fresh = was .fresh; kind = kind′ r (was .kind) }
+    again r was = record { old-final = was .old-final; old-seen = λ j i. seen′ _ _ (was .old-seen j i); old-stamp = was .old-stamp; frozen = was .frozen; in-order = was .in-order; later = was .later; holds = was .holds; tried-state = was .tried-state; trying-tried = was .trying-tried; most = was .most; commits = was .commits; aborts = λ e t. let h = was .aborts e t in record { at = h .at; list = h .list; before = h .before; not = h .not; gone = h .gone }; lists = was .lists; makes = was .makes; fresh = was .fresh; kind = kind′ r (was .kind) }
 
 -- ---- a freeze CAS that succeeds
 

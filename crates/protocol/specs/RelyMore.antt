@@ -21,17 +21,17 @@ module _ (w : ℕ) (X : View) (G : Ghost) (H : Holds X G) (r : ℕ) (f : Filled 
   R = H .records r f
 
   first-in : InList (X .filling r) 1
-  first-in = record { low = omega arith; high = omega (arith, R .two) }
+  first-in = record { low = omega arith; high = omega (arith, R .lists .two) }
 
   par : ℕ
   par = parOf (X .filling r)
 
   par-linked : G .linked (parOf (X .filling r)) ≡ true
-  par-linked = rw (← R .first) (R .linked 1 first-in)
+  par-linked = rw (← R .lists .first) (R .lists .linked 1 first-in)
 
   par-live : Live X (X .update (parOf (X .filling r)) .info .0)
   par-live =
-      let mine : X .update (parOf (X .filling r)) .info .0 ≡ r = rw (← R .first) (linking.stands X G H r f t all hit 1 first-in) in
+      let mine : X .update (parOf (X .filling r)) .info .0 ≡ r = rw (← R .lists .first) (linking.stands X G H r f t all hit 1 first-in) in
       rw mine (linking.live X G H r f t all hit)
 
   pub rely-link : Rely w X (wKid X (sideOf X (X .filling r)) (parOf (X .filling r)) (newChildOf (X .filling r))) G (gLinked G linked′)

@@ -110,7 +110,7 @@ module _ (w : ℕ) (s : Tables) (h : TablesSound s) (G : Ghost) (H : Holds (view
 
   most-listed : (r : ℕ) → Filled (view s) r → countAt (s .records) (recordNo r) ≤ 4
   unfolding view fillingAt
-  most-listed r f = H .records r f .most-listed
+  most-listed r f = H .records r f .lists .most-listed
 
   pub help-turns : (b : HelpStep) → ScanKnows (view s) G v us keys T (place.Help b Node) → D (helpNext Node v (helpOf s (v .info) (v .i) b))
   help-turns b k = help-next b (k .0) (k .1 .shown) _ (help-moves w s h G H (v .info .0) (k .1 .shown) (v .i) b (k .1 .at)) (help-falls s (v .info) (v .i) (most-listed (v .info .0) (k .1 .shown .filled)) b)

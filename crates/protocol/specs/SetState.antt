@@ -74,24 +74,14 @@ module _ (X : View) (G : Ghost) (H : Holds X G) (r v : ℕ) (t : ℕ → Bool) (
         aborts = by-equal q r
             (λ e h d. rw e (lost′ r (S .aborts (sym (change-same (X .state) r v) ∙ (rw e at h)) (rw e at d))))
             (λ e h d. lost′ q (was .aborts (sym (change-other (X .state) r v q e) ∙ h) (sym (S .other q e) ∙ d)));
-        two = was .two;
-        most-listed = was .most-listed;
-        first = was .first;
-        second = was .second;
-        linked = λ k i. was .linked k i;
-        apart = λ a b i k. was .apart a b i k;
-        inner = was .inner;
-        old-phase = was .old-phase;
-        new-used = was .new-used;
-        made = was .made;
-        prev = was .prev;
-        new-phase = was .new-phase;
+        lists = was .lists;
+        makes = was .makes;
         fresh = was .fresh;
         kind = kind′ (was .kind);
       }
     where
       kind′ : Planted X G q (X .filling q) ⊎ Copied X G q (X .filling q) → Planted X′ G′ q (X .filling q) ⊎ Copied X′ G′ q (X .filling q)
-      kind′ (inl p) = inl (record { left = p .left; right = p .right; inner = p .inner; kids = p .kids; leaf-left = p .leaf-left; leaf-right = p .leaf-right; phase-left = p .phase-left; phase-right = p .phase-right; no-prev = p .no-prev; used = p .used; made = p .made; fresh = p .fresh; differ = p .differ })
+      kind′ (inl p) = inl p
       kind′ (inr c) = inr (record { four = c .four; side = c .side; inner = c .inner; sibling = λ h. c .sibling (held-was q 2 h); copy = λ e h. c .copy e (held-was q 4 h); kind = c .kind; phase = c .phase })
 
   pub state-holds : Holds X′ G′
