@@ -40,16 +40,6 @@ module _ (X : View) (G : Ghost) (H : Holds X G) (r j m : ℕ) (f : Filled X r) (
   R : RecordHolds X G r (X .filling r)
   R = H .records r f
 
-  filled′ : (q : ℕ) → Filled X q → Filled X′ q
-  filled′ q g = record { used = g .used; some = g .some }
-
-  filled-was : (q : ℕ) → Filled X′ q → Filled X q
-  filled-was q g = record { used = g .used; some = g .some }
-
-  known′ : (w : Update) → KnownWord X w → KnownWord X′ w
-  known′ w (inl e) = inl e
-  known′ w (inr g) = inr (filled′ _ g)
-
   -- stamps rise along an update word
   rises : G .stamp (X .update x .info .0) < G .stamp r
   rises = rw hit (R .old-stamp j l)
@@ -58,7 +48,7 @@ module _ (X : View) (G : Ghost) (H : Holds X G) (r j m : ℕ) (f : Filled X r) (
   stamp-up v = change-case (λ w. G .stamp (X .update v .info .0) ≤ G .stamp (w .info .0)) (X .update) x u v (λ e. rw e (omega (arith, rises))) (λ e. omega arith)
 
   pub seen′ : (v : ℕ) (w : Update) → Seen X G v w → Seen X′ G′ v w
-  seen′ v w h = record { used = h .used; known = known′ w (h .known); since = by-equal v x (λ e. inr (rw (e, change-same (X .update) x u) (older e (h .since)))) (λ e. rw (change-other (X .update) x u v e) (h .since)); mine = λ ne. froze-more G r x _ v (h .mine ne) }
+  seen′ v w h = record { used = h .used; known = h .known; since = by-equal v x (λ e. inr (rw (e, change-same (X .update) x u) (older e (h .since)))) (λ e. rw (change-other (X .update) x u v e) (h .since)); mine = λ ne. froze-more G r x _ v (h .mine ne) }
     where
       older : v ≡ x → (X .update v ≡ w) ⊎ (G .stamp (w .info .0) < G .stamp (X .update v .info .0)) → G .stamp (w .info .0) < G .stamp r
       older e (inl p) = let same : X .update x ≡ w = rw (← e) p in rw (← same) rises
@@ -87,7 +77,7 @@ module _ (X : View) (G : Ghost) (H : Holds X G) (r j m : ℕ) (f : Filled X r) (
 
   record′ : (q : ℕ) → Filled X′ q → RecordHolds X′ G′ q (X .filling q)
   record′ q g =
-      let was : RecordHolds X G q (X .filling q) = H .records q (filled-was q g) in
+      let was : RecordHolds X G q (X .filling q) = H .records q g in
       record {
         old-final = λ k i. was .old-final k i;
         old-seen = λ k i. seen′ _ _ (was .old-seen k i);
@@ -134,8 +124,8 @@ module _ (X : View) (G : Ghost) (H : Holds X G) (r j m : ℕ) (f : Filled X r) (
         four = c .four;
         side = c .side;
         inner = c .inner;
-        sibling = λ h. c .sibling (held-was q 2 (filled-was q g) (record { low = omega arith; high = omega (arith, c .four) }) h);
-        copy = λ e h. c .copy e (held-was q 4 (filled-was q g) (record { low = omega arith; high = omega (arith, c .four) }) h);
+        sibling = λ h. c .sibling (held-was q 2 g (record { low = omega arith; high = omega (arith, c .four) }) h);
+        copy = λ e h. c .copy e (held-was q 4 g (record { low = omega arith; high = omega (arith, c .four) }) h);
         kind = c .kind;
         phase = c .phase;
       })
@@ -144,12 +134,12 @@ module _ (X : View) (G : Ghost) (H : Holds X G) (r j m : ℕ) (f : Filled X r) (
   freeze-holds = record {
     records = record′;
     unfilled = H .unfilled;
-    blank = λ q n. let was = H .blank q (λ g. n (filled′ q g)) in (was .0, was .1, λ v. ap (λ h. h v) (change-other (G .froze) r _ q (λ e. n (rw e (filled′ r f)))) ∙ was .2 v);
+    blank = λ q n. let was = H .blank q n in (was .0, was .1, λ v. ap (λ h. h v) (change-other (G .froze) r _ q (λ e. n (rw e f))) ∙ was .2 v);
     dummy = H .dummy;
     stamps = H .stamps;
     words = λ v b. change-case (λ w. KnownWord X′ w × (w .info .0 ≢ 0 → G′ .froze (w .info .0) v ≡ true)) (X .update) x u v
-        (λ e. (inr (filled′ r f), λ ne. rw (e, change-same (G .froze) r (change (G .froze r) x true)) (change-same (G .froze r) x true)))
-        (λ e. let was = H .words v b in (known′ (X .update v) (was .0), λ ne. froze-more G r x _ v (was .1 ne)));
+        (λ e. (inr f, λ ne. rw (e, change-same (G .froze) r (change (G .froze r) x true)) (change-same (G .froze r) x true)))
+        (λ e. let was = H .words v b in (was .0, λ ne. froze-more G r x _ v (was .1 ne)));
     used = H .used;
     kids = H .kids;
     prevs = H .prevs;

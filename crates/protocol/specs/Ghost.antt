@@ -52,9 +52,15 @@ sideOf X f = ltb (value (X .fixed (newChildOf f) .rank)) (value (X .fixed (parOf
 abbrev pub linkOf : View → Filling → ℕ
 linkOf X f = X .kid (sideOf X f) (parOf f)
 
-pub record Filled (X : View) (r : ℕ) : Type 0 where
-  pub used : r < X .records
-  pub some : 0 < X .filling r .count
+-- What is said below of a record and of a word read is said of parts of a view and of a ghost, so that it is the same where they stay.
+
+-- a used record that lists some nodes
+pub record FilledIn (records : ℕ) (filling : ℕ → Filling) (r : ℕ) : Type 0 where
+  pub used : r < records
+  pub some : 0 < filling r .count
+
+abbrev pub Filled : View → ℕ → Type 0
+Filled X = FilledIn (X .records) (X .filling)
 
 -- a place in the record's list
 pub record InList (f : Filling) (j : ℕ) : Type 0 where
@@ -77,12 +83,15 @@ abbrev pub FrozeAll : Ghost → ℕ → Filling → Type 0
 FrozeAll G r f = (i : ℕ) → InList f i → G .froze r (nodeOf f i) ≡ true
 
 -- frozen up to some place, and never there: no freeze of r succeeds any more
-pub record Lost (X : View) (G : Ghost) (r : ℕ) (f : Filling) : Type 0 where
+pub record LostIn (update : ℕ → Update) (stamp : ℕ → ℕ) (froze : ℕ → ℕ → Bool) (r : ℕ) (f : Filling) : Type 0 where
   pub at : ℕ
   pub list : InList f at
-  pub before : FrozeTo G r f at
-  pub not : G .froze r (nodeOf f at) ≡ false
-  pub gone : Passed X G f at
+  pub before : (i : ℕ) → 1 ≤ i → i < at → froze r (nodeOf f i) ≡ true
+  pub not : froze r (nodeOf f at) ≡ false
+  pub gone : stamp (oldOf f at .info .0) < stamp (update (nodeOf f at) .info .0)
+
+abbrev pub Lost : View → Ghost → ℕ → Filling → Type 0
+Lost X G = LostIn (X .update) (G .stamp) (G .froze)
 
 -- in progress: ⊥ or TRY
 abbrev pub Live : View → ℕ → Type 0
@@ -93,11 +102,14 @@ abbrev pub KnownWord : View → Update → Type 0
 KnownWord X u = (u .info .0 ≡ 0) ⊎ Filled X (u .info .0)
 
 -- a word u was read from node v: it stands there, or a later one does
-pub record Seen (X : View) (G : Ghost) (v : ℕ) (u : Update) : Type 0 where
-  pub used : v < X .nodes
-  pub known : KnownWord X u
-  pub since : (X .update v ≡ u) ⊎ (G .stamp (u .info .0) < G .stamp (X .update v .info .0))
-  pub mine : u .info .0 ≢ 0 → G .froze (u .info .0) v ≡ true
+pub record SeenIn (nodes records : ℕ) (filling : ℕ → Filling) (update : ℕ → Update) (stamp : ℕ → ℕ) (froze : ℕ → ℕ → Bool) (v : ℕ) (u : Update) : Type 0 where
+  pub used : v < nodes
+  pub known : (u .info .0 ≡ 0) ⊎ FilledIn records filling (u .info .0)
+  pub since : (update v ≡ u) ⊎ (stamp (u .info .0) < stamp (update v .info .0))
+  pub mine : u .info .0 ≢ 0 → froze (u .info .0) v ≡ true
+
+abbrev pub Seen : View → Ghost → ℕ → Update → Type 0
+Seen X G = SeenIn (X .nodes) (X .records) (X .filling) (X .update) (G .stamp) (G .froze)
 
 -- a word whose record is final
 abbrev pub Final : View → Update → Type 0

@@ -11,7 +11,7 @@ use Rattle.shapes.specs.declared.MaybeNode.the-variants.{At}
 use Rattle.tables.specs.Names.{node}
 use Rattle.tables.specs.Records.{trying, committed, aborted}
 use Rattle.views.specs.View.{View, wKid}
-use Rattle.protocol.specs.Ghost.{Ghost, nodeOf, oldOf, parOf, oldChildOf, newChildOf, sideOf, linkOf, Filled, InList, Past, FrozeAll, Live, Seen}
+use Rattle.protocol.specs.Ghost.{Ghost, nodeOf, oldOf, parOf, oldChildOf, newChildOf, sideOf, linkOf, Filled, InList, Past, FrozeAll, Live}
 use Rattle.protocol.specs.Invariant.{Planted, Held, Copied, RecordHolds, Holds}
 
 -- ---- one child changed
@@ -118,24 +118,15 @@ module _ (X : View) (G : Ghost) (H : Holds X G) (r : ℕ) (f : Filled X r) (t : 
     unlinked′ : (q n : ℕ) → q ≢ r → G .maker n ≡ q → G .linked n ≡ false → linked′ n ≡ false
     unlinked′ q n ne m h = only n (λ e. ne (sym m ∙ e)) ∙ h
 
-    filled-was : (q : ℕ) → Filled X′ q → Filled X q
-    filled-was q g = record { used = g .used; some = g .some }
-
-    filled′ : (q : ℕ) → Filled X q → Filled X′ q
-    filled′ q g = record { used = g .used; some = g .some }
-
-    pub seen′ : (y : ℕ) (w : Update) → Seen X G y w → Seen X′ G′ y w
-    seen′ y w h = record { used = h .used; known = elim (h .known) [ inl e ↦ inl e | inr g ↦ inr (filled′ _ g) ]; since = h .since; mine = h .mine }
-
     held-was : (q k : ℕ) → Filled X q → Held X′ q (X .filling q) k → (q ≢ r) × Held X q (X .filling q) k
     held-was q k g h = let o = open-was q g (h .open′) in (o .0, record { open′ = o .1; word = h .word })
 
     record′ : (q : ℕ) → Filled X′ q → RecordHolds X′ G′ q (X .filling q)
     record′ q g =
-        let was : RecordHolds X G q (X .filling q) = H .records q (filled-was q g) in
+        let was : RecordHolds X G q (X .filling q) = H .records q g in
         record {
           old-final = λ k i. was .old-final k i;
-          old-seen = λ k i. seen′ _ _ (was .old-seen k i);
+          old-seen = was .old-seen;
           old-stamp = λ k i. was .old-stamp k i;
           frozen = was .frozen;
           in-order = was .in-order;
@@ -144,11 +135,11 @@ module _ (X : View) (G : Ghost) (H : Holds X G) (r : ℕ) (f : Filled X r) (t : 
           tried-state = was .tried-state;
           trying-tried = was .trying-tried;
           most = was .most;
-          commits = λ e. let c = was .commits e in (c .0, (λ k i. c .1 k i), past′ q (filled-was q g) (c .2));
-          aborts = λ e d. let h = was .aborts e d in record { at = h .at; list = h .list; before = h .before; not = h .not; gone = h .gone };
+          commits = λ e. let c = was .commits e in (c .0, (λ k i. c .1 k i), past′ q g (c .2));
+          aborts = was .aborts;
           lists = let l = was .lists in record { two = l .two; most-listed = l .most-listed; first = l .first; second = l .second; linked = λ k i. more _ (l .linked k i); apart = l .apart; inner = l .inner; old-phase = l .old-phase };
           makes = was .makes;
-          fresh = λ h. let o = open-was q (filled-was q g) h in unlinked′ q (newChildOf (X .filling q)) (o .0) (was .makes .made) (was .fresh (o .1));
+          fresh = λ h. let o = open-was q g h in unlinked′ q (newChildOf (X .filling q)) (o .0) (was .makes .made) (was .fresh (o .1));
           kind = kind′ was (was .kind);
         }
       where
@@ -179,12 +170,12 @@ module _ (X : View) (G : Ghost) (H : Holds X G) (r : ℕ) (f : Filled X r) (t : 
           side = c .side;
           inner = c .inner;
           sibling = λ h.
-              let o = held-was q 2 (filled-was q g) h in
-              let off : oldChildOf (X .filling q) ≢ parOf (X .filling r) = λ e. held-apart q 2 (filled-was q g) (record { low = omega arith; high = omega (arith, c .four) }) (o .0) (h .word) (was .lists .second ∙ e) in
+              let o = held-was q 2 g h in
+              let off : oldChildOf (X .filling q) ≢ parOf (X .filling r) = λ e. held-apart q 2 g (record { low = omega arith; high = omega (arith, c .four) }) (o .0) (h .word) (was .lists .second ∙ e) in
               kid-other (X .kid) (sideOf X (X .filling r)) (parOf (X .filling r)) (newChildOf (X .filling r)) (c .side) (oldChildOf (X .filling q)) off ∙ c .sibling (o .1);
           copy = λ e h s.
-              let o = held-was q 4 (filled-was q g) h in
-              let off : nodeOf (X .filling q) 4 ≢ parOf (X .filling r) = held-apart q 4 (filled-was q g) (record { low = omega arith; high = omega (arith, c .four) }) (o .0) (h .word) in
+              let o = held-was q 4 g h in
+              let off : nodeOf (X .filling q) 4 ≢ parOf (X .filling r) = held-apart q 4 g (record { low = omega arith; high = omega (arith, c .four) }) (o .0) (h .word) in
               off-parent (was .fresh (o .1 .open′)) s ∙ c .copy e (o .1) s ∙ sym (kid-other (X .kid) (sideOf X (X .filling r)) (parOf (X .filling r)) (newChildOf (X .filling r)) s (nodeOf (X .filling q) 4) off);
           kind = c .kind;
           phase = c .phase;
@@ -194,10 +185,10 @@ module _ (X : View) (G : Ghost) (H : Holds X G) (r : ℕ) (f : Filled X r) (t : 
     link-holds = record {
       records = record′;
       unfilled = H .unfilled;
-      blank = λ q n. H .blank q (λ g. n (filled′ q g));
+      blank = H .blank;
       dummy = H .dummy;
       stamps = H .stamps;
-      words = λ y b. let was = H .words y b in (elim (was .0) [ inl e ↦ inl e | inr g ↦ inr (filled′ _ g) ], was .1);
+      words = H .words;
       used = used′;
       kids = λ v h k s. by v (G .linked v) refl h k s;
       prevs = λ v y h e. back v y (G .linked v) refl h e;

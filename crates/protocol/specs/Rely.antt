@@ -82,7 +82,7 @@ rely-same w X G = record {
 
 pub rely-counter : (w : ℕ) (X : View) (G : Ghost) (c : ℕ) → Rely w X (wCounter X c) G G
 rely-counter w X G c = record {
-  filled = λ r f. record { used = f .used; some = f .some };
+  filled = λ r f. f;
   filling = λ r f. refl;
   fixed = λ v l. refl;
   maker = λ v l. refl;
@@ -92,13 +92,13 @@ rely-counter w X G c = record {
   linked = λ v h. h;
   froze = λ r v h. h;
   tried = λ r h. h;
-  seen = λ v u h. record { used = h .used; known = elim (h .known) [ inl e ↦ inl e | inr f ↦ inr (record { used = f .used; some = f .some }) ]; since = h .since; mine = h .mine };
+  seen = λ v u h. h;
   stood = λ v u s e. e;
   final = λ u k h. h;
   begun = λ r f h. h;
   past = λ r f h. h;
   passed = λ r j f i h. h;
-  lost = λ r f h. record { at = h .at; list = h .list; before = h .before; not = h .not; gone = h .gone };
+  lost = λ r f h. h;
   kids = λ v h. inl (λ s. refl);
   unfilled = λ r l o h. h;
   unseen = λ r f o h. (h, refl, refl);
@@ -107,26 +107,23 @@ rely-counter w X G c = record {
 
 pub counter-holds : (X : View) (G : Ghost) (c : ℕ) → Holds X G → Holds (wCounter X c) G
 counter-holds X G c H = record {
-  records = λ r f. again r (H .records r (record { used = f .used; some = f .some }));
+  records = λ r f. again r (H .records r f);
   unfilled = H .unfilled;
-  blank = λ r n. H .blank r (λ f. n (record { used = f .used; some = f .some }));
+  blank = H .blank;
   dummy = H .dummy;
   stamps = H .stamps;
-  words = λ v l. let was = H .words v l in (elim (was .0) [ inl e ↦ inl e | inr f ↦ inr (record { used = f .used; some = f .some }) ], was .1);
+  words = H .words;
   used = H .used;
   kids = H .kids;
   prevs = H .prevs;
 }
   where
-    seen′ : (v : ℕ) (u : Update) → Seen X G v u → Seen (wCounter X c) G v u
-    seen′ v u h = record { used = h .used; known = elim (h .known) [ inl e ↦ inl e | inr f ↦ inr (record { used = f .used; some = f .some }) ]; since = h .since; mine = h .mine }
-
     kind′ : (r : ℕ) → Planted X G r (X .filling r) ⊎ Copied X G r (X .filling r) → Planted (wCounter X c) G r (X .filling r) ⊎ Copied (wCounter X c) G r (X .filling r)
     kind′ r (inl p) = inl p
     kind′ r (inr d) = inr (record { four = d .four; side = d .side; inner = d .inner; sibling = λ h. d .sibling (record { open′ = h .open′; word = h .word }); copy = λ e h. d .copy e (record { open′ = h .open′; word = h .word }); kind = d .kind; phase = d .phase })
 
     again : (r : ℕ) → RecordHolds X G r (X .filling r) → RecordHolds (wCounter X c) G r (X .filling r)
-    again r was = record { old-final = was .old-final; old-seen = λ j i. seen′ _ _ (was .old-seen j i); old-stamp = was .old-stamp; frozen = was .frozen; in-order = was .in-order; later = was .later; holds = was .holds; tried-state = was .tried-state; trying-tried = was .trying-tried; most = was .most; commits = was .commits; aborts = λ e t. let h = was .aborts e t in record { at = h .at; list = h .list; before = h .before; not = h .not; gone = h .gone }; lists = was .lists; makes = was .makes; fresh = was .fresh; kind = kind′ r (was .kind) }
+    again r was = record { old-final = was .old-final; old-seen = was .old-seen; old-stamp = was .old-stamp; frozen = was .frozen; in-order = was .in-order; later = was .later; holds = was .holds; tried-state = was .tried-state; trying-tried = was .trying-tried; most = was .most; commits = was .commits; aborts = was .aborts; lists = was .lists; makes = was .makes; fresh = was .fresh; kind = kind′ r (was .kind) }
 
 -- ---- a freeze CAS that succeeds
 
@@ -151,7 +148,7 @@ not-lost X G r j R l to hit h = elim (decLe (suc (h .at)) j) [
 pub rely-freeze : (w : ℕ) (X : View) (G : Ghost) (H : Holds X G) (r j m : ℕ) (f : Filled X r) (l : InList (X .filling r) j) (live : Live X r) (hit : X .update (nodeOf (X .filling r) j) ≡ oldOf (X .filling r) j) (order : (j ≡ 1) ⊎ (G .froze r (nodeOf (X .filling r) 1) ≡ true)) → (Lost X G r (X .filling r) → ⊥) → (Unseen G r → G .owner r ≡ w)
     → Rely w X (wUpdate X (nodeOf (X .filling r) j) (update m (recordNo r))) G (gFroze G r (nodeOf (X .filling r) j))
 rely-freeze w X G H r j m f l live hit order alive own = record {
-  filled = λ q g. record { used = g .used; some = g .some };
+  filled = λ q g. g;
   filling = λ q g. refl;
   fixed = λ v l. refl;
   maker = λ v l. refl;
@@ -196,7 +193,7 @@ rely-freeze w X G H r j m f l live hit order alive own = record {
 
 pub rely-state : (w : ℕ) (X : View) (G : Ghost) (H : Holds X G) (r v : ℕ) (t : ℕ → Bool) (S : Sets X G r v t) → (trying ≤ X .state r → trying ≤ v) → (G .tried r ≡ true → t r ≡ true) → (Unseen G r → ⊥) → Rely w X (wState X r v) G (gTried G t)
 rely-state w X G H r v t S up more shown = record {
-  filled = λ q g. record { used = g .used; some = g .some };
+  filled = λ q g. g;
   filling = λ q g. refl;
   fixed = λ y l. refl;
   maker = λ y l. refl;
@@ -206,13 +203,13 @@ rely-state w X G H r v t S up more shown = record {
   linked = λ y h. h;
   froze = λ q y h. h;
   tried = λ q h. by-equal q r (λ e. rw e (more (rw e at h))) (λ e. S .other q e ∙ h);
-  seen = setting.seen′ X G H r v t S;
+  seen = λ q w h. h;
   stood = λ v u s e. e;
   final = λ u k h. setting.final′ X G H r v t S (u .info .0) h;
   begun = λ q g h. change-case (λ s. trying ≤ s) (X .state) r v q (λ e. up (rw e at h)) (λ e. h);
   past = λ q g h. h;
   passed = λ q k g i h. h;
-  lost = λ q g h. record { at = h .at; list = h .list; before = h .before; not = h .not; gone = h .gone };
+  lost = λ q g h. h;
   kids = λ y h. inl (λ s. refl);
   unfilled = λ q l o h. h;
   unseen = λ q g o h. let ne : q ≢ r = λ e. shown (rw e at h) in (h, change-other (X .state) r v q ne, S .other q ne);

@@ -36,7 +36,7 @@ module _ (w : ℕ) (X : View) (G : Ghost) (H : Holds X G) (r : ℕ) (f : Filled 
 
   pub rely-link : Rely w X (wKid X (sideOf X (X .filling r)) (parOf (X .filling r)) (newChildOf (X .filling r))) G (gLinked G linked′)
   rely-link = record {
-    filled = λ q g. record { used = g .used; some = g .some };
+    filled = λ q g. g;
     filling = λ q g. refl;
     fixed = λ v l. refl;
     maker = λ v l. refl;
@@ -46,13 +46,13 @@ module _ (w : ℕ) (X : View) (G : Ghost) (H : Holds X G) (r : ℕ) (f : Filled 
     linked = more;
     froze = λ q v h. h;
     tried = λ q h. h;
-    seen = λ v u h. record { used = h .used; known = elim (h .known) [ inl e ↦ inl e | inr g ↦ inr (record { used = g .used; some = g .some }) ]; since = h .since; mine = h .mine };
+    seen = λ v u h. h;
     stood = λ v u s e. e;
     final = λ u k h. h;
     begun = λ q g h. h;
     past = linking.past′ X G H r f t all hit;
     passed = λ q k g i h. h;
-    lost = λ q g h. record { at = h .at; list = h .list; before = h .before; not = h .not; gone = h .gone };
+    lost = λ q g h. h;
     kids = λ v h. by-equal v (parOf (X .filling r)) (λ e. inr (rw e par-live)) (λ e. inl (λ s. kid-other (X .kid) (sideOf X (X .filling r)) (parOf (X .filling r)) (newChildOf (X .filling r)) s v e));
     unfilled = λ q l o h. h;
     unseen = λ q g o h. (h, refl, refl);

@@ -5,10 +5,9 @@ use mathlib.Core.Logic.{_≢_, _⊎_, inl, inr}
 use mathlib.Core.Bool.{Bool, true}
 use native.Mathlib.Omega.{arith}
 use Rattle.laws.specs.Changed.{change, change-same, change-other, change-case, by-equal}
-use Rattle.shapes.specs.declared.Update.{Update}
 use Rattle.tables.specs.Records.{undecided, trying, committed, aborted}
 use Rattle.views.specs.View.{View, wState}
-use Rattle.protocol.specs.Ghost.{Ghost, Filled, Past, FrozeAll, Lost, Live, Seen}
+use Rattle.protocol.specs.Ghost.{Ghost, Filled, Past, FrozeAll, Lost, Live}
 use Rattle.protocol.specs.Invariant.{Planted, Held, Copied, RecordHolds, Holds}
 
 abbrev pub gTried : Ghost → (ℕ → Bool) → Ghost
@@ -33,33 +32,21 @@ module _ (X : View) (G : Ghost) (H : Holds X G) (r v : ℕ) (t : ℕ → Bool) (
   abbrev G′ : Ghost
   G′ = gTried G t
 
-  filled′ : (q : ℕ) → Filled X q → Filled X′ q
-  filled′ q g = record { used = g .used; some = g .some }
-
-  filled-was : (q : ℕ) → Filled X′ q → Filled X q
-  filled-was q g = record { used = g .used; some = g .some }
-
   pub live-was : (q : ℕ) → Live X′ q → Live X q
   live-was q = change-case (λ s. s < committed → X .state q < committed) (X .state) r v q (λ e h. rw e (S .live h)) (λ e h. h)
 
   pub final′ : (q : ℕ) → committed ≤ X .state q → committed ≤ X′ .state q
   final′ q = change-case (λ s. committed ≤ X .state q → committed ≤ s) (X .state) r v q (λ e h. S .final (rw (← e) h)) (λ e h. h)
 
-  pub seen′ : (y : ℕ) (w : Update) → Seen X G y w → Seen X′ G′ y w
-  seen′ y w h = record { used = h .used; known = elim (h .known) [ inl e ↦ inl e | inr g ↦ inr (filled′ _ g) ]; since = h .since; mine = h .mine }
-
-  lost′ : (q : ℕ) → Lost X G q (X .filling q) → Lost X′ G′ q (X .filling q)
-  lost′ q h = record { at = h .at; list = h .list; before = h .before; not = h .not; gone = h .gone }
-
   held-was : (q k : ℕ) → Held X′ q (X .filling q) k → Held X q (X .filling q) k
   held-was q k h = record { open′ = h .open′; word = elim (h .word) [ inl e ↦ inl e | inr p ↦ inr (p .0, live-was q (p .1)) ] }
 
   record′ : (q : ℕ) → Filled X′ q → RecordHolds X′ G′ q (X .filling q)
   record′ q g =
-      let was : RecordHolds X G q (X .filling q) = H .records q (filled-was q g) in
+      let was : RecordHolds X G q (X .filling q) = H .records q g in
       record {
         old-final = λ k i. final′ _ (was .old-final k i);
-        old-seen = λ k i. seen′ _ _ (was .old-seen k i);
+        old-seen = was .old-seen;
         old-stamp = λ k i. was .old-stamp k i;
         frozen = was .frozen;
         in-order = was .in-order;
@@ -72,8 +59,8 @@ module _ (X : View) (G : Ghost) (H : Holds X G) (r v : ℕ) (t : ℕ → Bool) (
             (λ e h. rw e (let c = S .commits (sym (change-same (X .state) r v) ∙ (rw e at h)) in (c .0, (λ k i. c .1 k i), c .2)))
             (λ e h. let c = was .commits (sym (change-other (X .state) r v q e) ∙ h) in (S .other q e ∙ c .0, (λ k i. c .1 k i), c .2));
         aborts = by-equal q r
-            (λ e h d. rw e (lost′ r (S .aborts (sym (change-same (X .state) r v) ∙ (rw e at h)) (rw e at d))))
-            (λ e h d. lost′ q (was .aborts (sym (change-other (X .state) r v q e) ∙ h) (sym (S .other q e) ∙ d)));
+            (λ e h d. rw e ((S .aborts (sym (change-same (X .state) r v) ∙ (rw e at h)) (rw e at d))))
+            (λ e h d. (was .aborts (sym (change-other (X .state) r v q e) ∙ h) (sym (S .other q e) ∙ d)));
         lists = was .lists;
         makes = was .makes;
         fresh = was .fresh;
@@ -88,10 +75,10 @@ module _ (X : View) (G : Ghost) (H : Holds X G) (r v : ℕ) (t : ℕ → Bool) (
   state-holds = record {
     records = record′;
     unfilled = λ q l e. change-other (X .state) r v q (λ d. let some : 0 < X .filling q .count = rw d (S .filled .some) in omega arith) ∙ H .unfilled q l e;
-    blank = λ q n. let was = H .blank q (λ g. n (filled′ q g)) in (was .0, S .other q (λ e. n (rw e (filled′ r (S .filled)))) ∙ was .1, was .2);
+    blank = λ q n. let was = H .blank q n in (was .0, S .other q (λ e. n (rw e (S .filled))) ∙ was .1, was .2);
     dummy = H .dummy;
     stamps = H .stamps;
-    words = λ y b. let was = H .words y b in (elim (was .0) [ inl e ↦ inl e | inr g ↦ inr (filled′ _ g) ], was .1);
+    words = H .words;
     used = H .used;
     kids = H .kids;
     prevs = H .prevs;
