@@ -1,13 +1,13 @@
 // The words of an answer, a refusal's number, and how many keys are listed.
+use crate::page::put_text;
+use shapes::Answer;
+use shapes::Refusal;
 ghost use mathlib.Core.Path.{_≡_};
 ghost use mathlib.Core.List.{_∷_};
 ghost use Prim.Native.Nat.{min};
 ghost use Rattle.shapes.specs.Numbers.{refusalNumber};
 ghost use Rattle.lines.specs.Text.{blank, answerWord, mostKeys, listedOf};
 ghost use Rattle.lines.specs.Page.{page, fill};
-use crate::page::put_text;
-use shapes::Answer;
-use shapes::Refusal;
 
 // The most keys that a line lists: as many as there are nodes.
 const MOST_KEYS: u32 = 1024;
