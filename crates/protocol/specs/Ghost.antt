@@ -72,11 +72,18 @@ abbrev pub Past : View → Filling → Type 0
 Past X f = linkOf X f ≢ oldChildOf f
 
 -- the word that is to be replaced at place j is gone for good
+abbrev pub PassedIn : (ℕ → Update) → (ℕ → ℕ) → Filling → ℕ → Type 0
+PassedIn update stamp f j = stamp (oldOf f j .info .0) < stamp (update (nodeOf f j) .info .0)
+
 abbrev pub Passed : View → Ghost → Filling → ℕ → Type 0
-Passed X G f j = G .stamp (oldOf f j .info .0) < G .stamp (X .update (nodeOf f j) .info .0)
+Passed X G = PassedIn (X .update) (G .stamp)
+
+-- its nodes before place j are frozen
+abbrev pub FrozeToIn : (ℕ → ℕ → Bool) → ℕ → Filling → ℕ → Type 0
+FrozeToIn froze r f j = (i : ℕ) → 1 ≤ i → i < j → froze r (nodeOf f i) ≡ true
 
 abbrev pub FrozeTo : Ghost → ℕ → Filling → ℕ → Type 0
-FrozeTo G r f j = (i : ℕ) → 1 ≤ i → i < j → G .froze r (nodeOf f i) ≡ true
+FrozeTo G = FrozeToIn (G .froze)
 
 -- all its nodes are frozen
 abbrev pub FrozeAll : Ghost → ℕ → Filling → Type 0
@@ -86,9 +93,9 @@ FrozeAll G r f = (i : ℕ) → InList f i → G .froze r (nodeOf f i) ≡ true
 pub record LostIn (update : ℕ → Update) (stamp : ℕ → ℕ) (froze : ℕ → ℕ → Bool) (r : ℕ) (f : Filling) : Type 0 where
   pub at : ℕ
   pub list : InList f at
-  pub before : (i : ℕ) → 1 ≤ i → i < at → froze r (nodeOf f i) ≡ true
+  pub before : FrozeToIn froze r f at
   pub not : froze r (nodeOf f at) ≡ false
-  pub gone : stamp (oldOf f at .info .0) < stamp (update (nodeOf f at) .info .0)
+  pub gone : PassedIn update stamp f at
 
 abbrev pub Lost : View → Ghost → ℕ → Filling → Type 0
 Lost X G = LostIn (X .update) (G .stamp) (G .froze)
@@ -98,13 +105,16 @@ abbrev pub Live : View → ℕ → Type 0
 Live X r = X .state r < committed
 
 -- a word names the dummy or a filled record
+abbrev pub KnownIn : ℕ → (ℕ → Filling) → Update → Type 0
+KnownIn records filling u = (u .info .0 ≡ 0) ⊎ FilledIn records filling (u .info .0)
+
 abbrev pub KnownWord : View → Update → Type 0
-KnownWord X u = (u .info .0 ≡ 0) ⊎ Filled X (u .info .0)
+KnownWord X = KnownIn (X .records) (X .filling)
 
 -- a word u was read from node v: it stands there, or a later one does
 pub record SeenIn (nodes records : ℕ) (filling : ℕ → Filling) (update : ℕ → Update) (stamp : ℕ → ℕ) (froze : ℕ → ℕ → Bool) (v : ℕ) (u : Update) : Type 0 where
   pub used : v < nodes
-  pub known : (u .info .0 ≡ 0) ⊎ FilledIn records filling (u .info .0)
+  pub known : KnownIn records filling u
   pub since : (update v ≡ u) ⊎ (stamp (u .info .0) < stamp (update v .info .0))
   pub mine : u .info .0 ≢ 0 → froze (u .info .0) v ≡ true
 

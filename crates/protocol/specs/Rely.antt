@@ -55,31 +55,6 @@ pub record Rely (w : ℕ) (X X′ : View) (G G′ : Ghost) : Type 0 where
 
 -- ---- nothing shared is changed
 
-pub rely-same : (w : ℕ) (X : View) (G : Ghost) → Rely w X X G G
-rely-same w X G = record {
-  filled = λ r f. f;
-  filling = λ r f. refl;
-  fixed = λ v l. refl;
-  maker = λ v l. refl;
-  owner = λ r l. refl;
-  nodes = omega arith;
-  records = omega arith;
-  linked = λ v h. h;
-  froze = λ r v h. h;
-  tried = λ r h. h;
-  seen = λ v u h. h;
-  stood = λ v u s e. e;
-  final = λ u k h. h;
-  begun = λ r f h. h;
-  past = λ r f h. h;
-  passed = λ r j f i h. h;
-  lost = λ r f h. h;
-  kids = λ v h. inl (λ s. refl);
-  unfilled = λ r l o h. h;
-  unseen = λ r f o h. (h, refl, refl);
-  mine = λ v l h m o u. (h, λ s. refl);
-}
-
 pub rely-counter : (w : ℕ) (X : View) (G : Ghost) (c : ℕ) → Rely w X (wCounter X c) G G
 rely-counter w X G c = record {
   filled = λ r f. f;
@@ -104,6 +79,9 @@ rely-counter w X G c = record {
   unseen = λ r f o h. (h, refl, refl);
   mine = λ v l h m o u. (h, λ s. refl);
 }
+
+pub rely-same : (w : ℕ) (X : View) (G : Ghost) → Rely w X X G G
+rely-same w X G = rely-counter w X G (X .counter)
 
 pub counter-holds : (X : View) (G : Ghost) (c : ℕ) → Holds X G → Holds (wCounter X c) G
 counter-holds X G c H = record {
