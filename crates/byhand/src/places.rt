@@ -91,7 +91,7 @@ pub fn place_of(code: u32) -> Place {
     bare_place_of(code)
 }
 
-// ---- and back: every place has a code of its own
+// ---- for the digest: every place has a number of its own
 
 fn link_code(link: Link) -> u32 {
     match link {
