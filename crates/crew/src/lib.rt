@@ -1,8 +1,10 @@
 // The code that tells sound workers from spoiled ones.
+mod lists; // counts and pending nodes
+
+use crate::lists::lists_ok;
 use boards::worker_of;
 use fields::between;
 use fields::count_at;
-use fields::get;
 use homes::attempt_home;
 use homes::in_list;
 use homes::listed;
@@ -17,7 +19,6 @@ use shapes::Condition;
 use shapes::HelpStep;
 use shapes::Kind;
 use shapes::Locals;
-use shapes::NodeNo;
 use shapes::Operation;
 use shapes::Place;
 use shapes::Totals;
@@ -25,23 +26,21 @@ ghost use mathlib.Core.Path.{_≡_};
 ghost use mathlib.Core.Bool.{true, _&&_};
 ghost use mathlib.Core.List.{List};
 ghost use Prim.Native.Nat.{ℕ};
-ghost use lib.ListN.{getD};
 ghost use lib.IntN.{ℤ};
 ghost use Rattle.laws.specs.Choice.{pick};
 ghost use Rattle.laws.specs.Tests.{every};
-ghost use Rattle.tables.specs.Names.{node};
 ghost use Rattle.tables.specs.Records.{countAt};
 ghost use Rattle.tables.specs.Fresh.{between};
-ghost use Rattle.tables.specs.World.{world, spot};
+ghost use Rattle.tables.specs.World.{world};
 ghost use Rattle.sound.specs.Homes.{attemptHome, listed, inList};
-ghost use Rattle.sound.specs.Sound.{usedNode, handOk, withinOk, conditionOk, listsOk, workerOk};
+ghost use Rattle.sound.specs.Sound.{handOk, withinOk, conditionOk, workerOk};
 
 // All numbers in hand, at whatever place.
 fn hand_ok(t: Totals, v: Locals) -> bool
     ensures { λ r. ⌜ r ≡ handOk t v ⌝ }
 {
     let gp = v.gp;
-    phase_ok(t, v.seq.0)
+    phase_ok(t, v.seq)
         & used_maybe(t, gp)
         & used_node(t, v.p)
         & used_node(t, v.l)
@@ -113,37 +112,6 @@ fn condition_ok(rs: &[u32], v: Locals, n: u32, c: Condition) -> bool
             Operation::Scan(_, _, q) => scan_home(q) & within_ok(rs, 0, v, n, q),
         },
     }
-}
-
-// Pending node i of worker w, in the list that holds N for each worker.
-fn pending_node_ok(t: Totals, pending: &[u32], w: u32, i: u32) -> bool
-    ensures { λ r. ⌜ r ≡ usedNode t (node (getD (now (pending .entry)) (spot t w i) 0)) ⌝ }
-{
-    let x = get(pending, w as usize * t.n as usize + i as usize);
-    used_node(t, NodeNo(x))
-}
-
-// The nodes that worker w has pending, from the last.
-fn pending_ok(t: Totals, pending: &[u32], w: u32, count: u32) -> bool
-    ensures { λ r. ⌜ r ≡ every count (λ i. usedNode t (node (getD (now (pending .entry)) (spot t w i) 0))) ⌝ }
-{
-    let mut i = count;
-    while 0 < i {
-        i -= 1;
-        if !pending_node_ok(t, pending, w, i) {
-            return false;
-        }
-    }
-    true
-}
-
-// Pending and found counts are at most N, and pending nodes are used; they are looked at only if there are few.
-fn lists_ok(board: Board, pending: &[u32], w: u32) -> bool
-    ensures { λ r. ⌜ ((ns rs : List ℕ) (fs : List ℤ) → r ≡ listsOk (world board ns rs (now (pending .entry)) fs) w) ⌝ }
-{
-    let t = board.totals;
-    let k = worker_of(board, w);
-    (k.pending <= t.n) & (k.found <= t.n) && pending_ok(t, pending, w, k.pending)
 }
 
 fn worker_ok(board: Board, records: &[u32], pending: &[u32], w: u32) -> bool

@@ -43,14 +43,13 @@ hand-once = (one-answer _, one-answer _, one-answer _, one-answer _, one-answer 
 
 -- `seek`: SEARCH and VALIDATELINK
 pub seek-once :
-    OneAnswer seek.goes_left.Reads.Post ×
     OneAnswer seek.link_child.Reads.Post ×
     OneAnswer seek.link_left.Reads.Post ×
     OneAnswer seek.link_of.Reads.Post ×
     OneAnswer seek.link_parent.Reads.Post ×
     OneAnswer seek.search39.Reads.Post ×
     OneAnswer seek.sibling_left.Reads.Post
-seek-once = (one-answer _, one-answer _, one-answer _, one-answer _, one-answer _, one-answer _, one-answer _)
+seek-once = (one-answer _, one-answer _, one-answer _, one-answer _, one-answer _, one-answer _)
 
 -- `taking`: nodes and a record taken
 pub taking-once :

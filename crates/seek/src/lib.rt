@@ -2,7 +2,6 @@
 mod search; // down from a node to the child that the attempt's phase sees
 mod validate; // one call of VALIDATELINK, and the arguments of the five
 
-pub use search::goes_left;
 pub use search::search39;
 pub use validate::link_child;
 pub use validate::link_left;
