@@ -1,5 +1,4 @@
 // The words that an attempt reads (lines 66, 164, 189, 190), and what each operation does with a validated leaf (lines 78 and 79, 159, 181).
-use hand::ROOT;
 use shapes::Answer;
 use shapes::Decision;
 use shapes::Key;
@@ -8,6 +7,7 @@ use shapes::Locals;
 use shapes::MaybeNode;
 use shapes::Place;
 use shapes::Totals;
+use tables::ROOT;
 ghost use mathlib.Core.Path.{_≡_};
 ghost use Rattle.steps.specs.Attempt.{reaches182, validated, word66, grand66, word189, leafWord};
 

@@ -51,4 +51,4 @@ turnsOf s w (c ∷ h) =
 
 -- the internal nodes now in the table whose phase is at most i
 unfoldable pub innerNodes : World → ℕ → ℕ
-innerNodes s i = count (totalsOf s .nodes) (λ n. isInternal (s .nodes) (node n) && leb (phaseAt (s .nodes) (node n)) i)
+innerNodes s i = count (totalsOf s .nodes) (λ n. isInternal (s .nodes) (node n) && leb (phaseAt (s .nodes) (node n) .0) i)

@@ -13,6 +13,8 @@ use fields::set_state;
 use fields::set_update;
 use shapes::Effect;
 use shapes::Totals;
+use tables::DELETE_TAKES;
+use tables::INSERT_TAKES;
 use tables::UNDECIDED;
 pub use totals::within;
 ghost use mathlib.Core.Path.{_≡_};
@@ -30,12 +32,12 @@ fn carried_out(e: Effect, totals: Totals, nodes: &mut [u32], records: &mut [u32]
         Effect::TakeThree(k, l, q) => {
             three_nodes(nodes, totals.nodes, k, l, q);
             taken_record(records, totals.records);
-            taken(totals, 3)
+            taken(totals, INSERT_TAKES)
         }
         Effect::TakeCopy(sibling, p, q) => {
             copy_of(nodes, totals.nodes, sibling, p, q);
             taken_record(records, totals.records);
-            taken(totals, 1)
+            taken(totals, DELETE_TAKES)
         }
         Effect::CopyChild(x, left, c) => {
             set_child(nodes, x, left, c);

@@ -9,16 +9,14 @@ use shapes::MaybeNode;
 use shapes::NodeNo;
 use shapes::Place;
 use shapes::Update;
+use tables::DELETE_LISTS;
 use tables::FLAG;
+use tables::INSERT_LISTS;
 use tables::MARK;
+use tables::ROOT;
 ghost use mathlib.Core.Path.{_≡_};
 ghost use Rattle.tables.specs.Records.{entry};
 ghost use Rattle.steps.specs.Execute.{insertFilling, deleteFilling, fillInsert, fillDelete, fills};
-
-// How many nodes a record lists (lines 164 and 190).
-const INSERT_LISTS: u32 = 2;
-
-const DELETE_LISTS: u32 = 4;
 
 // nodes[i], its old word, and MARK where it is to be marked.
 fn entry_of(x: NodeNo, u: Update, m: u32) -> Entry
@@ -41,7 +39,7 @@ fn insert_filling(v: Locals) -> Filling
     let seq = v.seq;
     let first = entry_of(p, v.pup, FLAG);
     let second = entry_of(l, v.lup, MARK);
-    let none = entry_of(NodeNo(0), hand::fresh_word(), FLAG);
+    let none = entry_of(ROOT, hand::fresh_word(), FLAG);
     Filling {
         count: INSERT_LISTS,
         par: p,

@@ -13,12 +13,12 @@ use Rattle.tables.specs.Nodes.{phaseAt, prevAt}
 use Rattle.tables.specs.Versions.{walkBack}
 
 module _ (ns : List ℕ) (seq : Phase) where
-  pub stops : (x : NodeNo) (k : ℕ) → 0 < k → phaseAt ns x ≤ seq .0 → walkBack k ns seq (At x) ≡ At x
+  pub stops : (x : NodeNo) (k : ℕ) → 0 < k → phaseAt ns x .0 ≤ seq .0 → walkBack k ns seq (At x) ≡ At x
   unfolding walkBack pick
   stops x zero h p = absurd (omega arith)
   stops x (suc k) h p = simp (le-leb _ _ p)
 
-  pub goes : (x : NodeNo) (k : ℕ) → 0 < k → seq .0 < phaseAt ns x → walkBack k ns seq (At x) ≡ walkBack (k - 1) ns seq (prevAt ns x)
+  pub goes : (x : NodeNo) (k : ℕ) → 0 < k → seq .0 < phaseAt ns x .0 → walkBack k ns seq (At x) ≡ walkBack (k - 1) ns seq (prevAt ns x)
   unfolding walkBack pick
   goes x zero h p = absurd (omega arith)
   goes x (suc k) h p = let e : suc k - 1 ≡ k = omega arith in simp (lt-leb _ _ p, e)

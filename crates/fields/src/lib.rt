@@ -1,4 +1,4 @@
-// The code of the tables: one function for each field, total on any list.
+// The code of the tables, total on any list: READCHILD, keys, sizes; fields from words, nodes and records are handed on.
 mod keys; // keys as numbers, and back
 mod versions; // READCHILD
 mod workers; // a worker that holds no operation

@@ -17,7 +17,8 @@ fn walk_back(used: u32, ns: &[u32], seq: Phase, first: NodeNo) -> MaybeNode
     let mut x = first;
     let mut steps = used;
     while 0 < steps {
-        if phase_at(ns, x) <= seq.0 {
+        let phase = phase_at(ns, x);
+        if phase.0 <= seq.0 {
             return MaybeNode::At(x);
         }
         let MaybeNode::At(prev) = prev_at(ns, x) else {

@@ -9,13 +9,16 @@ use shapes::MaybeNode;
 use shapes::NodeNo;
 use shapes::Phase;
 use shapes::Rank;
-use shapes::RecordNo;
 use shapes::Totals;
 use tables::ABORT;
+use tables::DUMMY;
+use tables::FRESH_NODES;
+use tables::FRESH_RECORDS;
 use tables::INTERNAL;
 use tables::LEAF;
 use tables::NODE_WIDTH;
 use tables::RECORD_WIDTH;
+use tables::ROOT;
 ghost use mathlib.Core.Path.{_≡_};
 ghost use Prim.Native.Nat.{_*_, _≤_};
 ghost use lib.ListN.{length};
@@ -37,7 +40,7 @@ pub fn fresh_nodes(n: u32, ns: &mut [u32])
     clear(ns, n as usize * NODE_WIDTH as usize);
     new_node(
         ns,
-        NodeNo(0),
+        ROOT,
         INTERNAL,
         infinite(2),
         Phase(0),
@@ -73,7 +76,7 @@ pub fn fresh_records(m: u32, rs: &mut [u32])
     ensures { λ r. ⌜ now (rs .exit) ≡ freshRecords m (now (rs .entry)) ⌝ }
 {
     clear(rs, m as usize * RECORD_WIDTH as usize);
-    new_record(rs, RecordNo(0), ABORT, unfilled());
+    new_record(rs, DUMMY, ABORT, unfilled());
 }
 
 pub fn fresh_board(n: u32, m: u32, p: u32, board: Board) -> Board
@@ -84,8 +87,8 @@ pub fn fresh_board(n: u32, m: u32, p: u32, board: Board) -> Board
         n,
         m,
         p,
-        nodes: 3,
-        records: 1,
+        nodes: FRESH_NODES,
+        records: FRESH_RECORDS,
         counter: 0,
     };
     let before = board.workers;

@@ -13,7 +13,6 @@ pub use making::at_root;
 pub use making::at_word;
 pub use making::fresh_word;
 pub use making::holding_record;
-use shapes::NodeNo;
 use shapes::Update;
 use tables::ABORT;
 use tables::FLAG;
@@ -29,9 +28,6 @@ pub use taking::with_taken;
 pub use taking::with_up;
 ghost use mathlib.Core.Path.{_≡_};
 ghost use Rattle.steps.specs.Execute.{frozen};
-
-// Node 0.
-pub const ROOT: NodeNo = NodeNo(0);
 
 // Lines 90 and 91: a FLAG in progress, or a MARK that is not aborted.
 pub fn is_frozen(rs: &[u32], u: Update) -> bool

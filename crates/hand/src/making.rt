@@ -5,7 +5,9 @@ use shapes::NodeNo;
 use shapes::Phase;
 use shapes::RecordNo;
 use shapes::Update;
+use tables::DUMMY;
 use tables::FLAG;
+use tables::ROOT;
 ghost use mathlib.Core.Path.{_≡_};
 ghost use Rattle.tables.specs.Names.{freshWord};
 ghost use Rattle.steps.specs.Hand.{atRoot, atNode, atWord, holding};
@@ -15,15 +17,15 @@ pub fn fresh_word() -> Update
 {
     Update {
         mark: FLAG,
-        info: RecordNo(0),
+        info: DUMMY,
     }
 }
 
-// A scan at a node with the record of its word; the hands below that are made anew are such.
+// A scan at a node with the record of its word; the hands below are made by it.
 pub fn at_word(seq: Phase, x: NodeNo, r: RecordNo) -> Locals
     ensures { λ v. ⌜ v ≡ atWord seq x r ⌝ }
 {
-    let none = NodeNo(0);
+    let none = ROOT;
     let word = fresh_word();
     Locals {
         seq,
@@ -45,17 +47,17 @@ pub fn at_word(seq: Phase, x: NodeNo, r: RecordNo) -> Locals
 pub fn at_root(seq: Phase) -> Locals
     ensures { λ v. ⌜ v ≡ atRoot seq ⌝ }
 {
-    at_word(seq, NodeNo(0), RecordNo(0))
+    at_word(seq, ROOT, DUMMY)
 }
 
 pub fn at_node(seq: Phase, x: NodeNo) -> Locals
     ensures { λ v. ⌜ v ≡ atNode seq x ⌝ }
 {
-    at_word(seq, x, RecordNo(0))
+    at_word(seq, x, DUMMY)
 }
 
 pub fn holding_record(r: RecordNo) -> Locals
     ensures { λ v. ⌜ v ≡ holding r ⌝ }
 {
-    at_word(Phase(0), NodeNo(0), r)
+    at_word(Phase(0), ROOT, r)
 }

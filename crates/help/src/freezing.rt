@@ -25,7 +25,7 @@ pub fn counter111(totals: Totals, records: &[u32], r: RecordNo) -> HelpMove
     ensures { λ m. ⌜ m ≡ counter111 totals (now (records .entry)) r ⌝ }
 {
     let seq = fields::seq_at(records, r);
-    if totals.counter == seq {
+    if totals.counter == seq.0 {
         reads(HelpStep::Try113)
     } else {
         reads(HelpStep::Abort112)

@@ -4,6 +4,8 @@ use shapes::HelpStep;
 use shapes::Kind;
 use shapes::Link;
 use shapes::Place;
+use tables::DELETE_LISTS;
+use tables::INSERT_LISTS;
 ghost use mathlib.Core.Path.{_≡_};
 ghost use Rattle.sound.specs.Homes.{isInsert, isDelete, isUpdate, listed, linkHome, backHome, attemptHome, isNode, scanHome, inList};
 
@@ -40,8 +42,8 @@ pub fn listed(o: Kind) -> u32
     ensures { λ r. ⌜ r ≡ listed o ⌝ }
 {
     match o {
-        Kind::Insert => 2,
-        Kind::Delete => 4,
+        Kind::Insert => INSERT_LISTS,
+        Kind::Delete => DELETE_LISTS,
         Kind::Find => 0,
     }
 }

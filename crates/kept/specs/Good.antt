@@ -170,7 +170,7 @@ module _ (s : Tables) (h : TablesSound s) where
   unfolding walkBack
   walk-used zero seq m y l e = let z : _≡_ {A = ℕ} 0 1 = cc in absurd (omega arith)
   walk-used (suc k) seq Absent y l e = let z : _≡_ {A = ℕ} 0 1 = cc in absurd (omega arith)
-  walk-used (suc k) seq (At x) y l e = found (leb (phaseAt (s .nodes) x) (seq .0)) e (walk-used k seq (prevAt (s .nodes) x) y (back (prevAt (s .nodes) x) (unfold fixedAt in h .nodes (x .0) l .prev)))
+  walk-used (suc k) seq (At x) y l e = found (leb (phaseAt (s .nodes) x .0) (seq .0)) e (walk-used k seq (prevAt (s .nodes) x) y (back (prevAt (s .nodes) x) (unfold fixedAt in h .nodes (x .0) l .prev)))
     where
       back : (m : MaybeNode) → PrevSound (x .0) m → MaybeSound (s .totals) m
       back Absent p = tt

@@ -1,5 +1,4 @@
 // The links that an attempt validates: what follows a turn inside VALIDATELINK, and DELETE's sibling (line 182).
-use hand::ROOT;
 use shapes::Decision;
 use shapes::Key;
 use shapes::Link;
@@ -9,6 +8,7 @@ use shapes::Locals;
 use shapes::MaybeNode;
 use shapes::Place;
 use shapes::Totals;
+use tables::ROOT;
 ghost use mathlib.Core.Path.{_≡_};
 ghost use Rattle.tables.specs.World.{tables};
 ghost use Rattle.steps.specs.Attempt.{held, linkNext, linkStep, sibling182};

@@ -5,9 +5,9 @@ use crate::walk::Walking;
 use crate::walk::walk;
 use checking::is_sound;
 use shapes::Board;
-use shapes::NodeNo;
 use shapes::Phase;
 use shapes::Refusal;
+use tables::ROOT;
 ghost use mathlib.Core.Path.{_≡_};
 ghost use Rattle.tables.specs.World.{world};
 ghost use Rattle.listing.specs.Listing.{listOf};
@@ -39,10 +39,10 @@ pub fn list(
         return Listing::Refused(Refusal::Table);
     }
     let used = t.nodes;
-    let tried = walk(used, used, nodes, i, NodeNo(0), used, &mut keys[0..0], 0);
+    let tried = walk(used, used, nodes, i, ROOT, used, &mut keys[0..0], 0);
     let Walking::On(_, count) = tried else {
         return Listing::Refused(Refusal::Crooked);
     };
-    walk(used, used, nodes, i, NodeNo(0), used, keys, 0);
+    walk(used, used, nodes, i, ROOT, used, keys, 0);
     Listing::Keys(count)
 }

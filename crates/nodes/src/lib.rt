@@ -1,6 +1,7 @@
 // A node's fields, read and written by name.
 use shapes::MaybeNode;
 use shapes::NodeNo;
+use shapes::Phase;
 use shapes::Rank;
 use shapes::RecordNo;
 use shapes::Update;
@@ -66,10 +67,10 @@ pub fn key_at(ns: &[u32], x: NodeNo) -> u64
     key_value(rank_at(ns, x))
 }
 
-pub fn phase_at(ns: &[u32], x: NodeNo) -> u32
+pub fn phase_at(ns: &[u32], x: NodeNo) -> Phase
     ensures { λ r. ⌜ r ≡ phaseAt (now (ns .entry)) x ⌝ }
 {
-    word(ns, NODE_WIDTH, x.0, PHASE)
+    Phase(word(ns, NODE_WIDTH, x.0, PHASE))
 }
 
 pub fn prev_at(ns: &[u32], x: NodeNo) -> MaybeNode

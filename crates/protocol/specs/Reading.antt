@@ -40,9 +40,9 @@ module _ (s : Tables) (h : TablesSound s) (q : Phase) where
     where
       absent-no : {A : Type 0} → Absent ≡ At c → A
       absent-no e = let z : _≡_ {A = ℕ} 0 1 = cc in absurd (omega arith)
-  found-walk (suc k) x c e = by (λ y d. found-walk k y c d) (leb (phaseAt (s .nodes) x) (q .0)) refl (prevAt (s .nodes) x) refl
+  found-walk (suc k) x c e = by (λ y d. found-walk k y c d) (leb (phaseAt (s .nodes) x .0) (q .0)) refl (prevAt (s .nodes) x) refl
     where
-      by : ((y : NodeNo) → walkBack k (s .nodes) q (At y) ≡ At c → Walk (store (view s)) (q .0) (y .0) (c .0)) → (b : Bool) → leb (phaseAt (s .nodes) x) (q .0) ≡ b → (y : MaybeNode) → prevAt (s .nodes) x ≡ y → Walk (store (view s)) (q .0) (x .0) (c .0)
+      by : ((y : NodeNo) → walkBack k (s .nodes) q (At y) ≡ At c → Walk (store (view s)) (q .0) (y .0) (c .0)) → (b : Bool) → leb (phaseAt (s .nodes) x .0) (q .0) ≡ b → (y : MaybeNode) → prevAt (s .nodes) x ≡ y → Walk (store (view s)) (q .0) (x .0) (c .0)
       by on true t y d =
           let same : At x ≡ At c = sym (pick-true _ _ _ t) ∙ e in
           let named : _≡_ {A = NodeNo} x c = cc in

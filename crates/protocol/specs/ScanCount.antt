@@ -26,7 +26,7 @@ unfoldable pub innerNodes : View → ℕ → ℕ
 innerNodes X i = count (X .nodes) (early (store X) i)
 
 -- the same, read off the tables
-pub inner-nodes : (s : Tables) (i : ℕ) → innerNodes (view s) i ≡ count (s .totals .nodes) (λ n. isInternal (s .nodes) (node n) && leb (phaseAt (s .nodes) (node n)) i)
+pub inner-nodes : (s : Tables) (i : ℕ) → innerNodes (view s) i ≡ count (s .totals .nodes) (λ n. isInternal (s .nodes) (node n) && leb (phaseAt (s .nodes) (node n) .0) i)
 unfolding innerNodes view early leafOf isInternal fixedAt
 inner-nodes s i = count-same (s .totals .nodes) _ _ (λ n l. rw (twice (isInternal (s .nodes) (node n))))
   where

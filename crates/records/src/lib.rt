@@ -69,10 +69,10 @@ pub fn new_child_at(rs: &[u32], r: RecordNo) -> NodeNo
     NodeNo(word(rs, RECORD_WIDTH, r.0, NEW_CHILD))
 }
 
-pub fn seq_at(rs: &[u32], r: RecordNo) -> u32
+pub fn seq_at(rs: &[u32], r: RecordNo) -> Phase
     ensures { λ n. ⌜ n ≡ seqAt (now (rs .entry)) r ⌝ }
 {
-    word(rs, RECORD_WIDTH, r.0, SEQ)
+    Phase(word(rs, RECORD_WIDTH, r.0, SEQ))
 }
 
 // i may be any number, so the place is counted in 64 bits.

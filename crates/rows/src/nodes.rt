@@ -14,6 +14,7 @@ use shapes::NodeNo;
 use shapes::Rank;
 use shapes::Totals;
 use tables::INTERNAL;
+use tables::ROOT;
 ghost use mathlib.Core.Path.{_≡_};
 ghost use Rattle.laws.specs.Tests.{every};
 ghost use Rattle.sound.specs.Sound.{isAbsent, rootOk, rankOk, prevOk, childrenOk, nodeOk};
@@ -34,12 +35,13 @@ fn is_absent(m: MaybeNode) -> bool
 pub fn root_ok(ns: &[u32]) -> bool
     ensures { λ r. ⌜ r ≡ rootOk (now (ns .entry)) ⌝ }
 {
-    let root = NodeNo(0);
+    let root = ROOT;
     let key = rank_at(ns, root);
+    let phase = phase_at(ns, root);
     (kind_at(ns, root) == INTERNAL)
         & (key.class == INFINITY_2)
         & (key.word == 0)
-        & (phase_at(ns, root) == 0)
+        & (phase.0 == 0)
         & is_absent(prev_at(ns, root))
 }
 

@@ -2,18 +2,16 @@
 use fields::between;
 use shapes::MaybeNode;
 use shapes::NodeNo;
+use shapes::Phase;
 use shapes::RecordNo;
 use shapes::Totals;
 use shapes::Update;
+use tables::FRESH_NODES;
+use tables::FRESH_RECORDS;
 use tables::LAST_PHASE;
 use tables::MARK;
 ghost use mathlib.Core.Path.{_≡_};
 ghost use Rattle.sound.specs.Sound.{usedNode, usedMaybe, usedRecord, wordOk, phaseOk, usedOk};
-
-// Nodes and records used in fresh tables.
-const FRESH_NODES: u32 = 3;
-
-const FRESH_RECORDS: u32 = 1;
 
 pub fn used_node(t: Totals, x: NodeNo) -> bool
     ensures { λ r. ⌜ r ≡ usedNode t x ⌝ }
@@ -42,10 +40,10 @@ pub fn word_ok(t: Totals, u: Update) -> bool
     (u.mark <= MARK) & used_record(t, u.info)
 }
 
-pub fn phase_ok(t: Totals, q: u32) -> bool
+pub fn phase_ok(t: Totals, q: Phase) -> bool
     ensures { λ r. ⌜ r ≡ phaseOk t q ⌝ }
 {
-    q <= t.counter
+    q.0 <= t.counter
 }
 
 pub fn used_ok(t: Totals) -> bool

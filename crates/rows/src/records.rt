@@ -16,6 +16,8 @@ use shapes::NodeNo;
 use shapes::RecordNo;
 use shapes::Totals;
 use tables::ABORT;
+use tables::DELETE_LISTS;
+use tables::INSERT_LISTS;
 use tables::RECORD_WIDTH;
 ghost use mathlib.Core.Path.{_≡_};
 ghost use Prim.Native.Nat.{suc, _-_};
@@ -65,7 +67,7 @@ fn entry_ok(t: Totals, e: Entry) -> bool
 fn count_ok(ns: &[u32], par: NodeNo, c: u32) -> bool
     ensures { λ r. ⌜ r ≡ countOk (now (ns .entry)) par c ⌝ }
 {
-    (c == 0) | (((c == 2) | (c == 4)) & is_internal(ns, par))
+    (c == 0) | (((c == INSERT_LISTS) | (c == DELETE_LISTS)) & is_internal(ns, par))
 }
 
 // The nodes that record r lists, from the last.

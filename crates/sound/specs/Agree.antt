@@ -10,6 +10,7 @@ use Rattle.laws.specs.Choice.{pick}
 use Rattle.laws.specs.Tests.{Says, says-lt, says-le, says-eq, says-and, says-or, says-pick, says-as, says-yes, says-itself, every, says-none, says-more, says-every}
 use Rattle.shapes.specs.declared.NodeNo.{NodeNo}
 use Rattle.shapes.specs.declared.RecordNo.{RecordNo}
+use Rattle.shapes.specs.declared.Phase.{Phase}
 use Rattle.shapes.specs.declared.Rank.{Rank}
 use Rattle.shapes.specs.declared.Update.{Update}
 use Rattle.shapes.specs.declared.Entry.{Entry}
@@ -54,7 +55,7 @@ pub says-word : (t : Totals) (u : Update) → Says (wordOk t u) (WordSound t u)
 unfolding wordOk usedRecord
 says-word t u = says-as (says-and (says-le _ _) (says-lt _ _)) (λ h. record { type = h .0; info = h .1 }) (λ r. (r .type, r .info))
 
-pub says-phase : (t : Totals) (q : ℕ) → Says (phaseOk t q) (q ≤ t .counter)
+pub says-phase : (t : Totals) (q : Phase) → Says (phaseOk t q) (q .0 ≤ t .counter)
 unfolding phaseOk
 says-phase t q = says-le _ _
 

@@ -9,6 +9,7 @@ use Rattle.laws.specs.Tests.{all, every}
 use Rattle.shapes.specs.Numbers.{lastPhase}
 use Rattle.shapes.specs.declared.NodeNo.{NodeNo}
 use Rattle.shapes.specs.declared.RecordNo.{RecordNo}
+use Rattle.shapes.specs.declared.Phase.{Phase}
 use Rattle.shapes.specs.declared.Rank.{Rank}
 use Rattle.shapes.specs.declared.Update.{Update}
 use Rattle.shapes.specs.declared.Entry.{Entry}
@@ -44,8 +45,8 @@ usedRecord t r = ltb (r .0) (t .records)
 unfoldable pub wordOk : Totals → Update → Bool
 wordOk t u = leb (u .mark) 1 && usedRecord t (u .info)
 
-unfoldable pub phaseOk : Totals → ℕ → Bool
-phaseOk t q = leb q (t .counter)
+unfoldable pub phaseOk : Totals → Phase → Bool
+phaseOk t q = leb (q .0) (t .counter)
 
 -- used nodes 3 to N, used records 1 to M; Counter 0 to 65,535
 unfoldable pub usedOk : Totals → Bool
@@ -58,7 +59,7 @@ isAbsent Absent = true
 isAbsent (At x) = false
 
 unfoldable pub rootOk : List ℕ → Bool
-rootOk ns = all (eqb (kindAt ns root) 1 ∷ eqb (rankAt ns root .class) 2 ∷ eqb (rankAt ns root .word) 0 ∷ eqb (phaseAt ns root) 0 ∷ isAbsent (prevAt ns root) ∷ [])
+rootOk ns = all (eqb (kindAt ns root) 1 ∷ eqb (rankAt ns root .class) 2 ∷ eqb (rankAt ns root .word) 0 ∷ eqb (phaseAt ns root .0) 0 ∷ isAbsent (prevAt ns root) ∷ [])
 
 unfoldable pub dummyOk : List ℕ → Bool
 dummyOk rs = every recordWidth (λ f. eqb (recordWord rs dummy f) (getD (recordRow aborted unfilled) f 0))
@@ -106,7 +107,7 @@ recordOk s n =
 
 -- all numbers in hand, at whatever place
 unfoldable pub handOk : Totals → Locals → Bool
-handOk t v = all (phaseOk t (v .seq .0) ∷ usedMaybe t (v .gp) ∷ usedNode t (v .p) ∷ usedNode t (v .l) ∷ wordOk t (v .gpup) ∷ wordOk t (v .pup) ∷ wordOk t (v .lup) ∷ wordOk t (v .sup) ∷ wordOk t (v .up) ∷ usedNode t (v .sibling) ∷ usedNode t (v .made) ∷ usedRecord t (v .info) ∷ [])
+handOk t v = all (phaseOk t (v .seq) ∷ usedMaybe t (v .gp) ∷ usedNode t (v .p) ∷ usedNode t (v .l) ∷ wordOk t (v .gpup) ∷ wordOk t (v .pup) ∷ wordOk t (v .lup) ∷ wordOk t (v .sup) ∷ wordOk t (v .up) ∷ usedNode t (v .sibling) ∷ usedNode t (v .made) ∷ usedRecord t (v .info) ∷ [])
 
 -- a worker's place in a list lies within that list: EXECUTE's old words, a record's nodes, the pending nodes
 unfoldable pub withinOk : List ℕ → ℕ → Locals → ℕ → Place → Bool

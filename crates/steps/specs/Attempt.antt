@@ -31,6 +31,7 @@ use Rattle.steps.specs.Validate.{linkOf, linkParent, linkChild, linkLeft
 
 -- ---- taking nodes and a record, together or not at all
 
+-- k nodes and one record are left
 unfoldable pub room : Totals → ℕ → Bool
 room t k = leb (t .nodes + k) (t .n) && leb (t .records + 1) (t .m)
 
@@ -55,6 +56,7 @@ unfoldable pub reaches182 : Locals → MaybeNode → Decision
 reaches182 v Absent = decision.Crooked
 reaches182 v (At gp) = pick (sameNode (v .p) root) decision.Crooked (goes v place.Sibling182)
 
+-- the answer, or on to line 161 or 182
 unfoldable pub validated : Totals → List ℕ → Kind → Key → Locals → Decision
 validated t ns kind.Find k v = pick (eqb (keyAt ns (v .l)) (k .0)) (says Yes) (says No)
 validated t ns kind.Insert k v = pick (eqb (keyAt ns (v .l)) (k .0)) (says No) (takeThree t k v)
@@ -68,6 +70,7 @@ word66 t ns o k v =
     (pick (sameNode p root) (validated t ns o k v) (goes v place.Grand66))
     retries)
 
+-- line 66: gp's word
 unfoldable pub grand66 : Totals → List ℕ → Kind → Key → Locals → Decision
 grand66 t ns o k v =
     through (asParent ns (v .gp)) (λ gp.
@@ -107,6 +110,7 @@ held t ns v Sibling183 = takeCopy t ns v
 held t ns v Left187 = goes (withSup v (v .up)) (place.Link Right188 Word52)
 held t ns v Right188 = goes v place.Leaf190
 
+-- what a turn inside VALIDATELINK leads to; line 54 helps, and the attempt is made anew
 unfoldable pub linkNext : Totals → List ℕ → Locals → Link → LinkMove → Decision
 linkNext t ns v a link.Crooked = decision.Crooked
 linkNext t ns v a (link.Goes s u) = goes (withUp v u) (place.Link a s)
@@ -114,5 +118,6 @@ linkNext t ns v a (link.Helps r) = helps r
 linkNext t ns v a link.Fails = retries
 linkNext t ns v a link.Holds = held t ns v a
 
+-- a turn inside the call of VALIDATELINK at line a
 unfoldable pub linkStep : Tables → Key → Locals → Link → LinkStep → Decision
 linkStep s k v a b = linkNext (s .totals) (s .nodes) v a (linkOf (s .nodes) (s .records) (asParent (s .nodes) (linkParent v a)) (linkChild (s .nodes) v a) (linkLeft (s .nodes) k v a) (v .up) b)

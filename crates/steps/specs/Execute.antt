@@ -48,6 +48,7 @@ fillInsert ns v =
     through (asParent ns (At (v .p))) (λ p.
     does (effect.Fill (v .info) (insertFilling v)) (holding (v .info)) place.Freeze103)
 
+-- the copy is of the sibling's kind
 unfoldable pub fillDelete : List ℕ → Locals → Decision
 fillDelete ns v =
     through (asParent ns (v .gp)) (λ g.
@@ -56,6 +57,7 @@ fillDelete ns v =
     (does (effect.Fill (v .info) (deleteFilling v g)) (holding (v .info)) place.Freeze103)
     decision.Crooked))
 
+-- a find has nothing to fill
 unfoldable pub fills : List ℕ → Kind → Locals → Decision
 fills ns kind.Insert v = fillInsert ns v
 fills ns kind.Delete v = fillDelete ns v

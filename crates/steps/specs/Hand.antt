@@ -24,21 +24,21 @@ use Rattle.tables.specs.World.{blank}
 
 -- ---- the hand
 
--- lines 74 to 38: the attempt's phase, p the Root and no gp; line 131: the scan's phase, its node the Root
-abbrev pub atRoot : Phase → Locals
-atRoot q = record { seq = q; gp = Absent; p = root; l = root; gpup = freshWord; pup = freshWord; lup = freshWord; sup = freshWord; up = freshWord; sibling = root; made = root; info = dummy; i = 0 }
-
--- a scan at a node
-abbrev pub atNode : Phase → NodeNo → Locals
-atNode q x = record { seq = q; gp = Absent; p = x; l = root; gpup = freshWord; pup = freshWord; lup = freshWord; sup = freshWord; up = freshWord; sibling = root; made = root; info = dummy; i = 0 }
-
--- a scan at a node with the record of its word
+-- a scan at a node with the record of its word (lines 139 and 140)
 abbrev pub atWord : Phase → NodeNo → RecordNo → Locals
 atWord q x r = record { seq = q; gp = Absent; p = x; l = root; gpup = freshWord; pup = freshWord; lup = freshWord; sup = freshWord; up = freshWord; sibling = root; made = root; info = r; i = 0 }
 
--- only a record
+-- a scan at a node
+abbrev pub atNode : Phase → NodeNo → Locals
+atNode q x = atWord q x dummy
+
+-- lines 74, 155 and 177, then 35: the attempt's phase, p the Root and no gp; lines 130 and 131: the scan's phase, its node the Root
+abbrev pub atRoot : Phase → Locals
+atRoot q = atNode q root
+
+-- only a record, once line 102 has filled it
 abbrev pub holding : RecordNo → Locals
-holding r = record { seq = phase 0; gp = Absent; p = root; l = root; gpup = freshWord; pup = freshWord; lup = freshWord; sup = freshWord; up = freshWord; sibling = root; made = root; info = r; i = 0 }
+holding r = atWord (phase 0) root r
 
 -- lines 37 and 38
 abbrev pub downTo : Locals → NodeNo → Locals

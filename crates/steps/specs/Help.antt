@@ -32,7 +32,7 @@ reads s = help.Goes effect.Nothing 0 s
 
 -- line 111: the handshake
 unfoldable pub counter111 : Totals → List ℕ → RecordNo → HelpMove
-counter111 t rs r = pick (eqb (t .counter) (seqAt rs r)) (reads Try113) (reads Abort112)
+counter111 t rs r = pick (eqb (t .counter) (seqAt rs r .0)) (reads Try113) (reads Abort112)
 
 -- lines 112 and 113: a CAS of the state from ⊥
 unfoldable pub stateCas : List ℕ → RecordNo → ℕ → Effect
@@ -65,6 +65,7 @@ casChild ns parent old new =
 unfoldable pub state125 : List ℕ → RecordNo → HelpMove
 state125 rs r = pick (eqb (stateAt rs r) trying) (reads Abort126) (reads State127)
 
+-- each line of HELP; lines 112, 113, 117, 118, 123, 124 and 126 write
 unfoldable pub helpStep : Tables → RecordNo → ℕ → HelpStep → HelpMove
 helpStep s r i Counter111 = counter111 (s .totals) (s .records) r
 helpStep s r i Abort112 = help.Goes (stateCas (s .records) r aborted) 0 State114
@@ -84,11 +85,13 @@ helpOf s r i b = pick (helpable (s .records) r) (helpStep s r i b) help.Crooked
 
 -- ---- where HELP returns to
 
+-- line 104; lines 54 and 98, which try again; line 140
 unfoldable pub backTo : Back → Locals → Bool → Decision
 backTo Own v done = pick done (says Yes) retries
 backTo Again v done = retries
 backTo Node v done = goes (atNode (v .seq) (v .p)) place.Child141
 
+-- on inside HELP, or back
 unfoldable pub helpNext : Back → Locals → HelpMove → Decision
 helpNext b v help.Crooked = decision.Crooked
 helpNext b v (help.Goes e i s) = does e (withI v i) (place.Help s b)

@@ -98,6 +98,7 @@ stepOn s w k (Busy o) = settle s w k o (decide (tablesOf s) (listsOf s w k) o (k
 unfoldable pub stepOf : World → ℕ → Left
 stepOf s w = pick (ltb w (totalsOf s .p)) (stepOn s w (workerAt s w) (workerAt s w .condition)) (refused s refusal.Worker)
 
+-- a turn on any tables: refusal 1 comes first
 unfoldable pub turnOf : World → ℕ → Left
 turnOf s w = pick (soundOf s) (stepOf s w) (refused s refusal.Table)
 
@@ -122,6 +123,7 @@ startOf s w o =
     (pick (ltb w (totalsOf s .p)) (begin s w (workerAt s w) o (workerAt s w .condition)) (refused s refusal.Worker))
     (refused s refusal.Table)
 
+-- one start for each kind of operation
 unfoldable pub insertOf : World → ℕ → Key → Left
 insertOf s w k = startOf s w (Insert k place.Counter74)
 

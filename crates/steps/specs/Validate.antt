@@ -36,13 +36,15 @@ child57 ns Absent child left = link.Crooked
 child57 ns (At parent) Absent left = link.Crooked
 child57 ns (At parent) (At child) left = pick (sameNode (childAt ns parent left) child) link.Holds link.Fails
 
+-- a turn inside VALIDATELINK (lines 51 to 60)
 unfoldable pub linkOf : List ℕ → List ℕ → MaybeNode → MaybeNode → Bool → Update → LinkStep → LinkMove
 linkOf ns rs parent child left up Word52 = word52 ns parent
 linkOf ns rs parent child left up State53 = state53 rs up
 linkOf ns rs parent child left up Child57 = child57 ns parent child left
 
--- ---- the arguments of the five calls
+-- ---- the arguments of the five calls: lines 64, 65, 183, 187, 188
 
+-- parent
 unfoldable pub linkParent : Locals → Link → MaybeNode
 linkParent v Leaf64 = At (v .p)
 linkParent v Parent65 = v .gp
@@ -50,11 +52,12 @@ linkParent v Sibling183 = At (v .p)
 linkParent v Left187 = At (v .sibling)
 linkParent v Right188 = At (v .sibling)
 
--- the child of a copy as it stands in the table; no changeable word is read for it
+-- the child of a copy as it stands in the table: until line 123 links it the copy is its maker's own, so this is no read of a shared word
 unfoldable pub copyChild : List ℕ → MaybeNode → Bool → MaybeNode
 copyChild ns Absent left = Absent
 copyChild ns (At copy) left = At (childAt ns copy left)
 
+-- child
 unfoldable pub linkChild : List ℕ → Locals → Link → MaybeNode
 linkChild ns v Leaf64 = At (v .l)
 linkChild ns v Parent65 = At (v .p)
@@ -71,6 +74,7 @@ unfoldable pub parentLeft : List ℕ → Key → MaybeNode → Bool
 parentLeft ns k Absent = false
 parentLeft ns k (At x) = goesLeft ns k x
 
+-- left
 unfoldable pub linkLeft : List ℕ → Key → Locals → Link → Bool
 linkLeft ns k v Leaf64 = goesLeft ns k (v .p)
 linkLeft ns k v Parent65 = parentLeft ns k (v .gp)

@@ -26,7 +26,7 @@ pub record Fixed : Type 0 where
   pub prev : MaybeNode
 
 unfoldable pub fixedAt : List ℕ → NodeNo → Fixed
-fixedAt ns x = record { kind = kindAt ns x; rank = rankAt ns x; phase = phaseAt ns x; prev = prevAt ns x }
+fixedAt ns x = record { kind = kindAt ns x; rank = rankAt ns x; phase = phaseAt ns x .0; prev = prevAt ns x }
 
 -- two tables of nodes with the same words in row y up to field 5
 fixed-words : (ns ms : List ℕ) (y : NodeNo) → ((g : ℕ) → g < 6 → nodeWord ms y g ≡ nodeWord ns y g) → fixedAt ms y ≡ fixedAt ns y

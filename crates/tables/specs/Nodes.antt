@@ -11,7 +11,7 @@ use Rattle.shapes.specs.declared.Phase.{Phase}
 use Rattle.shapes.specs.declared.MaybeNode.{MaybeNode}
 use Rattle.shapes.specs.declared.MaybeNode.the-variants.{Absent, At}
 use Rattle.tables.specs.Rows.{word, putWord, putRow}
-use Rattle.tables.specs.Names.{node, recordNo, update, value}
+use Rattle.tables.specs.Names.{node, recordNo, phase, update, value}
 
 -- kind (0 leaf, 1 internal), key class, key, phase, whether there is a prev, prev, left, right, the update word's type and record
 abbrev pub nodeWidth : ℕ
@@ -32,8 +32,8 @@ rankAt ns x = record { class = nodeWord ns x 1; word = nodeWord ns x 2 }
 unfoldable pub keyAt : List ℕ → NodeNo → ℕ
 keyAt ns x = value (rankAt ns x)
 
-unfoldable pub phaseAt : List ℕ → NodeNo → ℕ
-phaseAt ns x = nodeWord ns x 3
+unfoldable pub phaseAt : List ℕ → NodeNo → Phase
+phaseAt ns x = phase (nodeWord ns x 3)
 
 unfoldable pub prevAt : List ℕ → NodeNo → MaybeNode
 prevAt ns x = pick (eqb (nodeWord ns x 4) 0) Absent (At (node (nodeWord ns x 5)))

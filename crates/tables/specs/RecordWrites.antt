@@ -7,7 +7,6 @@ use native.Mathlib.Omega.{arith}
 use lib.ListN.{length, getD}
 use Rattle.shapes.specs.declared.RecordNo.{RecordNo}
 use Rattle.shapes.specs.declared.Filling.{Filling}
-use Rattle.tables.specs.Names.{phase}
 use Rattle.tables.specs.Rows.{HasRows, rows-put, word-put-same, word-put-row, word-put-field, rows-putRow, word-putRow-same, word-putRow-other}
 use Rattle.tables.specs.Records.{recordWidth, recordWord, countAt, stateAt, parAt, oldChildAt, newChildAt, seqAt, entryAt, setState, entryRow, recordRow, newRecord}
 
@@ -18,7 +17,7 @@ fillingAt rs r = record {
   par = parAt rs r;
   old = oldChildAt rs r;
   new = newChildAt rs r;
-  seq = phase (seqAt rs r);
+  seq = seqAt rs r;
   first = entryAt rs r 1;
   second = entryAt rs r 2;
   third = entryAt rs r 3;

@@ -5,6 +5,7 @@ use mathlib.Core.Bool.{Bool, _&&_, not}
 use lib.Dec.{eqb, ltb}
 use Rattle.shapes.specs.declared.NodeNo.{NodeNo}
 use Rattle.shapes.specs.declared.RecordNo.{RecordNo}
+use Rattle.shapes.specs.declared.Phase.{Phase}
 use Rattle.shapes.specs.declared.Update.{Update}
 use Rattle.shapes.specs.declared.Entry.{Entry}
 use Rattle.shapes.specs.declared.Filling.{Filling}
@@ -47,8 +48,8 @@ oldChildAt rs r = node (recordWord rs r 3)
 unfoldable pub newChildAt : List ℕ → RecordNo → NodeNo
 newChildAt rs r = node (recordWord rs r 4)
 
-unfoldable pub seqAt : List ℕ → RecordNo → ℕ
-seqAt rs r = recordWord rs r 5
+unfoldable pub seqAt : List ℕ → RecordNo → Phase
+seqAt rs r = phase (recordWord rs r 5)
 
 -- nodes[i], oldUpdate[i] and whether nodes[i] appears in mark; i from 1, as in the report
 unfoldable pub entryAt : List ℕ → RecordNo → ℕ → Entry

@@ -14,7 +14,7 @@ use Rattle.tables.specs.Nodes.{isInternal, phaseAt, prevAt, childAt}
 unfoldable pub walkBack : ℕ → List ℕ → Phase → MaybeNode → MaybeNode
 walkBack zero ns seq x = Absent
 walkBack (suc k) ns seq Absent = Absent
-walkBack (suc k) ns seq (At x) = let further = walkBack k ns seq (prevAt ns x) in pick (leb (phaseAt ns x) (seq .0)) (At x) further
+walkBack (suc k) ns seq (At x) = let further = walkBack k ns seq (prevAt ns x) in pick (leb (phaseAt ns x .0) (seq .0)) (At x) further
 
 -- prev is a smaller number in sound tables, so as many steps as nodes are used are enough
 unfoldable pub readChild : ℕ → List ℕ → NodeNo → Bool → Phase → MaybeNode

@@ -11,13 +11,10 @@ use shapes::NodeNo;
 use shapes::Place;
 use shapes::RecordNo;
 use shapes::Totals;
+use tables::DELETE_TAKES;
+use tables::INSERT_TAKES;
 ghost use mathlib.Core.Path.{_≡_};
 ghost use Rattle.steps.specs.Attempt.{room, takeThree, takeCopy, copyWord};
-
-// An insert takes a leaf, its sibling and their parent; a delete a copy.
-const FOR_INSERT: u32 = 3;
-
-const FOR_DELETE: u32 = 1;
 
 // Totals may be any numbers, so the sums are made in 64 bits.
 fn room(totals: Totals, taken: u32) -> bool
@@ -34,7 +31,7 @@ pub fn take_three(totals: Totals, k: Key, v: Locals) -> Decision
 {
     let l = v.l;
     let seq = v.seq;
-    if room(totals, FOR_INSERT) {
+    if room(totals, INSERT_TAKES) {
         let internal = totals.nodes + 2;
         let taken = hand::with_taken(v, NodeNo(internal), RecordNo(totals.records));
         hand::decide_to(Effect::TakeThree(k, l, seq), taken, Place::Leaf164)
@@ -50,7 +47,7 @@ pub fn take_copy(totals: Totals, nodes: &[u32], v: Locals) -> Decision
     let sibling = v.sibling;
     let p = v.p;
     let seq = v.seq;
-    if room(totals, FOR_DELETE) {
+    if room(totals, DELETE_TAKES) {
         let taken = hand::with_taken(v, NodeNo(totals.nodes), RecordNo(totals.records));
         let effect = Effect::TakeCopy(sibling, p, seq);
         if fields::is_internal(nodes, sibling) {

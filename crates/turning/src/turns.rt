@@ -118,7 +118,7 @@ fn fitting_step(
     step_on(board, w, k, nodes, records, pending, found)
 }
 
-// Whoever calls has looked at the tables. What a turn adds to is tested here again, which takes no time.
+// Whoever calls has looked at the tables. What a turn adds to is tested here again, in constant time.
 pub fn step(
     board: Board,
     w: u32,

@@ -1,4 +1,5 @@
 -- `seq_at` is `seqAt`, by what `word` reads.
+use mathlib.Core.Path.{refl}
 use borrow.Author.Needs.{needs}
 use Rattle.tables.specs.Records.{seqAt}
 use Rattle.records.proofs.seq_at.Statement.{statement}
@@ -9,7 +10,7 @@ word-requires c κs = search needs
 
 returns : tie.Need-returns
 unfolding seqAt
-returns c = c .word .ensures
+returns c = rw (← c .word .ensures) refl
 
 pub seq-at-spec : {M : Type 1} → statement M
 seq-at-spec = tie.close (tie.spec word-requires returns)

@@ -21,7 +21,7 @@ phase-at-requires : tie.Need-phase-at-requires Inv-loop μ-loop
 phase-at-requires c κs = search needs
 
 returns : tie.Need-returns Inv-loop μ-loop
-returns c = sym (stops _ _ _ (c .before .before .before .before .loop .steps) (omega arith) (rw (c .before .before .phase-at .ensures) at (c .if1 .taken))) ∙ c .before .before .before .before .loop .inv
+returns c = sym (stops _ _ _ (c .before .before .before .before .before .loop .steps) (omega arith) (rw (c .before .before .before .phase-at .ensures) at (c .if1 .taken))) ∙ c .before .before .before .before .before .loop .inv
 
 prev-at-requires : tie.Need-prev-at-requires Inv-loop μ-loop
 prev-at-requires c κs = search needs
@@ -33,7 +33,7 @@ enum-told : tie.Need-enum-told Inv-loop μ-loop
 enum-told c = search needs
 
 returns-2 : tie.Need-returns-2 Inv-loop μ-loop
-returns-2 c = sym (lost _ _ _) ∙ (rw (← c .before .before .prev-at .ensures, c .enum-told .given .1) at (sym (goes _ _ (c .before .before .before .before .before .before .before .loop .x) (c .before .before .before .before .before .before .before .loop .steps) (omega arith) (rw (c .before .before .before .before .before .phase-at .ensures) at (c .before .before .before .if1 .left))) ∙ c .before .before .before .before .before .before .before .loop .inv))
+returns-2 c = sym (lost _ _ _) ∙ (rw (← c .before .before .prev-at .ensures, c .enum-told .given .1) at (sym (goes _ _ (c .before .before .before .before .before .before .before .before .loop .x) (c .before .before .before .before .before .before .before .before .loop .steps) (omega arith) (rw (c .before .before .before .before .before .before .phase-at .ensures) at (c .before .before .before .if1 .left))) ∙ c .before .before .before .before .before .before .before .before .loop .inv))
 
 sub-steps : tie.Need-sub-steps Inv-loop μ-loop
 sub-steps c = search needs
@@ -42,7 +42,7 @@ loop-less : tie.Need-loop-less Inv-loop μ-loop
 loop-less c = omega arith
 
 loop-again : tie.Need-loop-again Inv-loop μ-loop
-loop-again c = rw (← c .before .before .before .prev-at .ensures, c .before .prev .given .1) at (sym (goes _ _ (c .before .before .before .before .before .before .before .before .loop .x) (c .before .before .before .before .before .before .before .before .loop .steps) (omega arith) (rw (c .before .before .before .before .before .before .phase-at .ensures) at (c .before .before .before .before .if1 .left))) ∙ c .before .before .before .before .before .before .before .before .loop .inv)
+loop-again c = rw (← c .before .before .before .prev-at .ensures, c .before .prev .given .1) at (sym (goes _ _ (c .before .before .before .before .before .before .before .before .before .loop .x) (c .before .before .before .before .before .before .before .before .before .loop .steps) (omega arith) (rw (c .before .before .before .before .before .before .before .phase-at .ensures) at (c .before .before .before .before .if1 .left))) ∙ c .before .before .before .before .before .before .before .before .before .loop .inv)
 
 returns-3 : tie.Need-returns-3 Inv-loop μ-loop
 returns-3 c = sym (over _ _ _ (c .before .loop .steps) (omega arith)) ∙ c .before .loop .inv

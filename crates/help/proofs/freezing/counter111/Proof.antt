@@ -17,11 +17,11 @@ reads-requires-2 c κs = search needs
 
 returns : tie.Need-returns
 unfolding counter111 pick
-returns c = rw (← c .before .before .before .seq-at .ensures, eq-eqb _ _ (c .before .if1 .taken)) (c .reads .ensures)
+returns c = rw (← c .before .before .before .before .seq-at .ensures, eq-eqb _ _ (c .before .if1 .taken)) (c .reads .ensures)
 
 returns-2 : tie.Need-returns-2
 unfolding counter111 pick
-returns-2 c = rw (← c .before .before .before .seq-at .ensures, ne-eqb _ _ (c .before .if1 .left)) (c .reads2 .ensures)
+returns-2 c = rw (← c .before .before .before .before .seq-at .ensures, ne-eqb _ _ (c .before .if1 .left)) (c .reads2 .ensures)
 
 pub counter111-spec : {M : Type 1} → statement M
 counter111-spec =
