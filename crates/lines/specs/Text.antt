@@ -5,7 +5,7 @@ use lib.Dec.{ltb}
 use lib.IntN.{ℤ, pos, negsuc}
 use lib.ListN.{getD}
 use Rattle.laws.specs.Choice.{pick}
-use Rattle.shapes.specs.Numbers.{refusalNumber}
+use Rattle.shapes.specs.Numbers.{refusalNumber, mostN}
 use Rattle.shapes.specs.declared.Answer.{Answer}
 use Rattle.shapes.specs.declared.Answer.the-variants.{Yes, No, Keys, NoRoom, NoPhase}
 use Rattle.shapes.specs.declared.Refusal.{Refusal}
@@ -115,9 +115,9 @@ keysAt found from (suc n) = getD found from (pos 0) ∷ keysAt found (suc from) 
 abbrev pub keysText : List ℤ → ℕ → ℕ → List ℕ
 keysText found from n = spaced (map signed (keysAt found from n))
 
--- the most keys that a line lists: as many as there can be nodes (01, 'Sizes'), so that it fits its page
+-- the most keys that a line lists: as many as there can be nodes, so that it fits its page
 abbrev pub mostKeys : ℕ
-mostKeys = 1024
+mostKeys = mostN
 
 -- how many keys an answer lists
 unfoldable pub listedOf : Answer → ℕ

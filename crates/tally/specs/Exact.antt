@@ -1,16 +1,19 @@
 -- Turn counts are exact: no schedule has commands enough to come to the greatest count that is kept.
-use Prim.Native.Nat.{ℕ, zero, suc, _+_, _-_, _*_, _≤_}
-use mathlib.Core.Path.{_≡_, refl, ap}
-use mathlib.Core.List.{List, [], _∷_}
+use Prim.Native.Nat.{ℕ, zero, suc, _+_, _*_, _≤_}
+use mathlib.Core.Path.{_≡_, refl}
+use mathlib.Core.List.{List}
 use native.Mathlib.Omega.{arith}
-use lib.ListN.{length, getD, set, length-append}
+use lib.ListN.{length, getD, set, drop, replicate}
 use borrow.Author.Tests.{le-leb}
 use Rattle.laws.specs.Choice.{pick-true}
 use Rattle.laws.specs.Parts.{below-head, below-tail}
 use Rattle.kept.specs.Spots.{at-set}
-use Rattle.schedule.specs.Numbers.{turns}
-use Rattle.schedule.specs.Format.{numbersOf, commandBytes, openingBytes, Proper, Schedule, allBytes, scheduleBytes, EachProper, Is}
-use Rattle.schedule.specs.Commands.{command-some}
+use Rattle.schedule.specs.Numbers.{mostBytes, turns}
+use Rattle.schedule.specs.Format.{numbersOf, Proper}
+use Rattle.schedule.specs.Reading.{openingAt, commandAt}
+use Rattle.schedule.specs.Openings.{opening-opens}
+use Rattle.schedule.specs.Standing.{command-stands}
+use Rattle.shapes.specs.Numbers.{mostP}
 use Rattle.shapes.specs.declared.Outcome.{Outcome}
 use Rattle.shapes.specs.declared.Outcome.the-variants as outcome
 use Rattle.tables.specs.World.{World}
@@ -18,7 +21,12 @@ use Rattle.tables.specs.Fresh.{Left}
 use Rattle.steps.specs.Turn.{turnOf, goesOn, runFrom, runOf, Ran}
 use Rattle.schedule.specs.declared.Command.{Command}
 use Rattle.schedule.specs.declared.Command.the-variants.{Insert, Delete, Find, Scan, Turns}
-use Rattle.tally.specs.Playing.{Evening, Told, mostTurns, counted, startedCounts, begun, ran, playBy, playOf}
+use Rattle.schedule.specs.declared.OpeningReading.{OpeningReading}
+use Rattle.schedule.specs.declared.OpeningReading.the-variants as opening
+use Rattle.schedule.specs.declared.CommandReading.{CommandReading}
+use Rattle.schedule.specs.declared.CommandReading.the-variants as command
+use Rattle.tally.specs.Playing.{Evening, mostTurns, counted, startedCounts, begun, ran, playBy, playOf}
+use Rattle.tally.specs.Whole.{freshEvening, going, playFrom, begins, printedBy}
 
 -- ---- a run takes no more turns than it was given
 
@@ -53,8 +61,8 @@ started-at-most b w (outcome.Said a) counts h = h
 started-at-most b w (outcome.Refused r) counts h = h
 
 -- the greatest n of a command
-abbrev pub mostN : ℕ
-mostN = 4294967295
+abbrev pub mostAsked : ℕ
+mostAsked = 4294967295
 
 unfoldable pub turnsIn : Command → ℕ
 turnsIn (Insert w k) = 0
@@ -63,22 +71,22 @@ turnsIn (Find w k) = 0
 turnsIn (Scan w a b) = 0
 turnsIn (Turns w n) = n
 
-begun-at-most : (number b w : ℕ) (counts : List ℕ) (d : Left) → AtMost b counts → AtMost (b + mostN) (begun number w counts d .evening .turns)
+begun-at-most : (number b w : ℕ) (counts : List ℕ) (d : Left) → AtMost b counts → AtMost (b + mostAsked) (begun number w counts d .evening .turns)
 unfolding begun
 begun-at-most number b w counts d h = λ v. omega (arith, started-at-most b w (d .outcome) counts h v)
 
 -- a command adds no more than its own turns
-played-at-most : (number b : ℕ) (c : Command) (e : Evening) → turnsIn c ≤ mostN → AtMost b (e .turns) → AtMost (b + mostN) (playBy _+_ number c e .evening .turns)
+played-at-most : (number b : ℕ) (c : Command) (e : Evening) → turnsIn c ≤ mostAsked → AtMost b (e .turns) → AtMost (b + mostAsked) (playBy _+_ number c e .evening .turns)
 unfolding playBy ran turnsIn
 played-at-most number b (Insert w k) e few h = begun-at-most number b w (e .turns) _ h
 played-at-most number b (Delete w k) e few h = begun-at-most number b w (e .turns) _ h
 played-at-most number b (Find w k) e few h = begun-at-most number b w (e .turns) _ h
 played-at-most number b (Scan w x y) e few h = begun-at-most number b w (e .turns) _ h
-played-at-most number b (Turns w n) e few h = set-at-most (b + mostN) w _ (e .turns) (λ v. omega (arith, h v)) (omega (arith, h w, run-few n w (e .world)))
+played-at-most number b (Turns w n) e few h = set-at-most (b + mostAsked) w _ (e .turns) (λ v. omega (arith, h v)) (omega (arith, h w, run-few n w (e .world)))
 
 -- ---- so the count that is kept is the sum
 
-exact-one : (number b : ℕ) (c : Command) (e : Evening) → turnsIn c ≤ mostN → AtMost b (e .turns) → b + mostN ≤ mostTurns → playOf number c e ≡ playBy _+_ number c e
+exact-one : (number b : ℕ) (c : Command) (e : Evening) → turnsIn c ≤ mostAsked → AtMost b (e .turns) → b + mostAsked ≤ mostTurns → playOf number c e ≡ playBy _+_ number c e
 unfolding playBy ran turnsIn counted
 exact-one number b (Insert w k) e few h room = refl
 exact-one number b (Delete w k) e few h room = refl
@@ -86,26 +94,9 @@ exact-one number b (Find w k) e few h room = refl
 exact-one number b (Scan w x y) e few h room = refl
 exact-one number b (Turns w n) e few h room = rw (pick-true _ _ _ (le-leb (getD (e .turns) w 0 + runOf n (e .world) w .turns) mostTurns (omega (arith, h w, run-few n w (e .world), room)))) refl
 
--- what commands tell, one after another
-unfoldable pub playAllBy : (ℕ → ℕ → ℕ) → ℕ → List Command → Evening → List Told
-playAllBy add number [] e = []
-playAllBy add number (c ∷ cs) e = let first = playBy add number c e in first ∷ playAllBy add (suc number) cs (first .evening)
+-- ---- over all that is printed, whatever the bytes
 
-unfoldable pub EachFew : List Command → Type 0
-EachFew [] = Unit
-EachFew (c ∷ cs) = (turnsIn c ≤ mostN) × EachFew cs
-
-pub exact-all : (number b : ℕ) (cs : List Command) (e : Evening) → EachFew cs → AtMost b (e .turns) → b + length cs * mostN ≤ mostTurns → playAllBy counted number cs e ≡ playAllBy _+_ number cs e
-unfolding playAllBy EachFew
-exact-all number b [] e few h room = refl
-exact-all number b (c ∷ cs) e few h room =
-    let rest : b + mostN + length cs * mostN ≤ mostTurns = omega (arith, room) in
-    let one = exact-one number b c e (few .0) h (omega (arith, rest)) in
-    rw (one, exact-all (suc number) (b + mostN) cs (playBy _+_ number c e .evening) (few .1) (played-at-most number b c e (few .0) h) rest) refl
-
--- ---- over whole schedules: they have at most as many commands as bytes
-
-proper-few : (c : Command) → Proper c → turnsIn c ≤ mostN
+proper-few : (c : Command) → Proper c → turnsIn c ≤ mostAsked
 unfolding turnsIn numbersOf
 proper-few (Insert w k) h = omega arith
 proper-few (Delete w k) h = omega arith
@@ -113,19 +104,37 @@ proper-few (Find w k) h = omega arith
 proper-few (Scan w a b) h = omega arith
 proper-few (Turns w n) h = omega (arith, below-head _ n _ (below-tail _ w _ (below-tail _ turns _ (h .fits))))
 
-each-few : (cs : List Command) → EachProper cs → EachFew cs
-unfolding EachProper EachFew
-each-few [] h = tt
-each-few (c ∷ cs) h = (proper-few c (h .0), each-few cs (h .1))
+-- a command, if what follows it is exact
+exact-going : (done b : ℕ) (s : List ℕ) (e : Evening) (capped summed : ℕ → Evening → List ℕ)
+    → AtMost b (e .turns) → b + mostAsked ≤ mostTurns
+    → ((end : ℕ) (after : Evening) → AtMost (b + mostAsked) (after .turns) → capped end after ≡ summed end after)
+    → (r : CommandReading) → commandAt s ≡ r → going counted done e r capped ≡ going _+_ done e r summed
+unfolding going
+exact-going done b s e capped summed h room rest command.Faulty at = refl
+exact-going done b s e capped summed h room rest (command.Read c end) at =
+    let few = proper-few c (command-stands s c end at .proper) in
+    rw (exact-one (suc done) b c e few h room, rest end (playBy _+_ (suc done) c e .evening) (played-at-most (suc done) b c e few h)) refl
 
-few-commands : (cs : List Command) → length cs ≤ length (allBytes cs)
-unfolding allBytes
-few-commands [] = omega arith
-few-commands (c ∷ cs) = omega (arith, length-append (commandBytes c) (allBytes cs), command-some c, few-commands cs)
+-- no more than k commands are left, and there is room for the most that they can ask
+exact-from : (k done b : ℕ) (s : List ℕ) (e : Evening) → AtMost b (e .turns) → b + k * mostAsked ≤ mostTurns → playFrom counted k done s e ≡ playFrom _+_ k done s e
+unfolding playFrom
+exact-from zero done b s e h room = refl
+exact-from (suc k) done b s e h room =
+    let left : b + mostAsked + k * mostAsked ≤ mostTurns = omega (arith, room) in
+    rw (exact-going done b s e _ _ h (omega (arith, left)) (λ end after few. exact-from k (suc done) (b + mostAsked) (drop end s) after few left) (commandAt s) refl) refl
 
--- a schedule's turn counts are the sums of the turns taken, whatever their number
-pub exact : (s : List ℕ) (x : Schedule) → Is s x → (e : Evening) → AtMost 0 (e .turns) → playAllBy counted 1 (x .commands) e ≡ playAllBy _+_ 1 (x .commands) e
-unfolding scheduleBytes
-exact s x h e none =
-    let few : length (x .commands) ≤ 65536 = omega (arith, few-commands (x .commands), length-append (openingBytes (x .n) (x .m) (x .p)) (allBytes (x .commands)), ap length (h .bytes), h .few) in
-    exact-all 1 0 (x .commands) e (each-few (x .commands) (h .each)) none (omega (arith, few))
+none-counted : (p : ℕ) → AtMost 0 (replicate p 0)
+none-counted zero w = omega arith
+none-counted (suc p) zero = omega arith
+none-counted (suc p) (suc w) = none-counted p w
+
+-- what is printed with counts that are capped is what is printed with the sums of the turns taken
+pub exact : (s : List ℕ) → printedBy counted s ≡ printedBy _+_ s
+unfolding printedBy begins freshEvening
+exact s = by (openingAt s) refl
+  where
+    by : (r : OpeningReading) → openingAt s ≡ r → begins counted r s ≡ begins _+_ r s
+    by opening.Faulty at = refl
+    by (opening.Read n m p end) at =
+        let few : length s ≤ mostBytes = opening-opens s n m p end at .few in
+        exact-from (length s) 0 0 (drop end s) (freshEvening n m p) (none-counted mostP) (omega (arith, few))

@@ -1,5 +1,6 @@
 pub mod Playing
-pub mod Exact
 pub mod Whole
+pub mod Exact
+pub mod Listed
 pub mod Opened
 pub mod Examples

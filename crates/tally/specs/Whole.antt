@@ -9,7 +9,7 @@ use Rattle.shapes.specs.Numbers.{mostN, mostM, mostP}
 use Rattle.shapes.specs.declared.Totals.{Totals}
 use Rattle.tables.specs.Nodes.{nodeWidth}
 use Rattle.tables.specs.Records.{recordWidth}
-use Rattle.tables.specs.World.{World, totalsOf, idle}
+use Rattle.tables.specs.World.{World, totalsOf, idle, spot}
 use Rattle.tables.specs.Fresh.{freshOf}
 use Rattle.schedule.specs.Reading.{openingAt, commandAt}
 use Rattle.schedule.specs.declared.OpeningReading.{OpeningReading}
@@ -19,7 +19,7 @@ use Rattle.schedule.specs.declared.CommandReading.the-variants as command
 use Rattle.lines.specs.Text.{textOf}
 use Rattle.lines.specs.declared.Line.{Line}
 use Rattle.lines.specs.declared.Line.the-variants.{Quiet, Answered, Refused, End, Bad}
-use Rattle.tally.specs.Playing.{Evening, Told, playOf}
+use Rattle.tally.specs.Playing.{Evening, Told, counted, playBy}
 
 -- ---- tables
 
@@ -38,10 +38,10 @@ freshEvening n m p = record { world = freshOf n m p lent .world; turns = replica
 
 -- ---- lines
 
--- where the keys that a line lists stand among the found keys: a worker's list has N places
+-- where the keys that a line lists stand among the found keys: where its worker's list begins
 unfoldable pub keysPlace : Totals → Line → ℕ
 keysPlace t Quiet = 0
-keysPlace t (Answered number w answer turns) = w * t .n
+keysPlace t (Answered number w answer turns) = spot t w 0
 keysPlace t (Refused number w refusal) = 0
 keysPlace t (End commands nodes records counter) = 0
 keysPlace t (Bad number) = 0
@@ -53,23 +53,32 @@ spoken d = let s = d .evening .world in textOf (d .line) (s .found) (keysPlace (
 unfoldable pub endLine : ℕ → Totals → Line
 endLine commands t = End commands (t .nodes) (t .records) (t .counter)
 
--- ---- the evening
+abbrev ended : ℕ → Evening → List ℕ
+ended commands e = textOf (endLine commands (totalsOf (e .world))) [] 0
 
-unfoldable pub going : ℕ → Evening → CommandReading → (ℕ → Evening → List ℕ) → List ℕ
-going done e (command.Read c end) rest = let d = playOf (suc done) c e in spoken d ++ rest end (d .evening)
-going done e command.Faulty rest = textOf (Bad (suc done)) [] 0
+abbrev faulted : ℕ → List ℕ
+faulted number = textOf (Bad number) [] 0
+
+-- ---- the evening, by a way to add turns
+
+unfoldable pub going : (ℕ → ℕ → ℕ) → ℕ → Evening → CommandReading → (ℕ → Evening → List ℕ) → List ℕ
+going add done e (command.Read c end) rest = let d = playBy add (suc done) c e in spoken d ++ rest end (d .evening)
+going add done e command.Faulty rest = faulted (suc done)
 
 -- so many commands are done; a command has bytes, so there are no more than k in k bytes
-unfoldable pub playFrom : ℕ → ℕ → List ℕ → Evening → List ℕ
-playFrom zero done s e = textOf (endLine done (totalsOf (e .world))) [] 0
-playFrom (suc k) done s e =
-    let more = going done e (commandAt s) (λ end after. playFrom k (suc done) (drop end s) after) in
-    pick (eqb (length s) 0) (textOf (endLine done (totalsOf (e .world))) [] 0) more
+unfoldable pub playFrom : (ℕ → ℕ → ℕ) → ℕ → ℕ → List ℕ → Evening → List ℕ
+playFrom add zero done s e = pick (eqb (length s) 0) (ended done e) (faulted (suc done))
+playFrom add (suc k) done s e =
+    let more = going add done e (commandAt s) (λ end after. playFrom add k (suc done) (drop end s) after) in
+    pick (eqb (length s) 0) (ended done e) more
 
-unfoldable pub begins : OpeningReading → List ℕ → List ℕ
-begins (opening.Read n m p end) s = playFrom (length s) 0 (drop end s) (freshEvening n m p)
-begins opening.Faulty s = textOf (Bad 0) [] 0
+unfoldable pub begins : (ℕ → ℕ → ℕ) → OpeningReading → List ℕ → List ℕ
+begins add (opening.Read n m p end) s = playFrom add (length s) 0 (drop end s) (freshEvening n m p)
+begins add opening.Faulty s = faulted 0
 
--- "The program reads a schedule from standard input and prints one line per answer or refusal"
-unfoldable pub printed : List ℕ → List ℕ
-printed s = begins (openingAt s) s
+unfoldable pub printedBy : (ℕ → ℕ → ℕ) → List ℕ → List ℕ
+printedBy add s = begins add (openingAt s) s
+
+-- "The program reads a schedule from standard input and prints one line per answer or refusal"; `exact` says that its counts are the sums
+abbrev pub printed : List ℕ → List ℕ
+printed = printedBy counted

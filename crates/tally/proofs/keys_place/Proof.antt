@@ -1,5 +1,7 @@
 -- `keys_place` is `keysPlace`, by the line.
-use mathlib.Core.Path.{refl}
+use mathlib.Core.Path.{refl, sym, _∙_}
+use native.Mathlib.Nat.{add-zero}
+use Rattle.tables.specs.World.{spot}
 use Rattle.tally.specs.Whole.{keysPlace}
 use borrow.Author.Needs.{needs}
 use Rattle.tally.proofs.keys_place.Statement.{statement}
@@ -24,8 +26,8 @@ enum-told-4 : tie.Need-enum-told-4
 enum-told-4 c = search needs
 
 returns : tie.Need-returns
-unfolding keysPlace
-returns c = rw (c .before .before .line .given .1) (c .list-place .ensures)
+unfolding keysPlace spot
+returns c = rw (c .before .before .line .given .1) (c .list-place .ensures ∙ sym (add-zero _))
 
 returns-2 : tie.Need-returns-2
 unfolding keysPlace
