@@ -18,7 +18,7 @@ use Rattle.shapes.specs.declared.Outcome.{Outcome}
 use Rattle.shapes.specs.declared.Outcome.the-variants as outcome
 use Rattle.tables.specs.World.{World}
 use Rattle.tables.specs.Fresh.{Left}
-use Rattle.steps.specs.Turn.{turnOf, goesOn, runFrom, runOf, Ran}
+use Rattle.steps.specs.Turn.{turnOf, goesOn, runBy, runFrom, runOf, Ran}
 use Rattle.schedule.specs.declared.Command.{Command}
 use Rattle.schedule.specs.declared.Command.the-variants.{Insert, Delete, Find, Scan, Turns}
 use Rattle.schedule.specs.declared.OpeningReading.{OpeningReading}
@@ -37,7 +37,7 @@ goes-on-few (outcome.Said a) s n k rest h = omega arith
 goes-on-few (outcome.Refused r) s n k rest h = omega arith
 
 runs-few : (k n w : ℕ) (s : World) → runFrom k n w s .turns ≤ n + k
-unfolding runFrom
+unfolding runBy
 runs-few zero n w s = omega arith
 runs-few (suc k) n w s = goes-on-few (turnOf s w .outcome) (turnOf s w .world) n k (runFrom k (suc n) w (turnOf s w .world)) (runs-few k (suc n) w (turnOf s w .world))
 
