@@ -19,6 +19,7 @@ use tally::no_board;
 ghost use mathlib.Core.Path.{_≡_};
 ghost use Prim.Native.Nat.{_+_, _≤_};
 ghost use lib.ListN.{length};
+ghost use Rattle.schedule.specs.Numbers.{mostBytes};
 
 // What became of a command: its bytes, or none where the evening ended with it; and whether its line was written.
 struct Shown {
@@ -100,7 +101,7 @@ fn show_commands(
     pending: &mut [u32],
     found: &mut [i32],
 ) -> bool
-    requires { ⌜ length (now commands) ≤ 65536 ⌝ }
+    requires { ⌜ length (now commands) ≤ mostBytes ⌝ }
 {
     let mut board = first;
     let mut turns = [0u64; 8];
