@@ -11,7 +11,7 @@ use Rattle.shapes.specs.declared.Answer.the-variants.{Yes, No, Keys, NoRoom, No
 use Rattle.tables.specs.World.{World, tablesOf, blank, idle, workerAt}
 use Rattle.sound.specs.Sound.{soundOf}
 use Rattle.steps.specs.Opened.{stepsOpened}
-use Rattle.steps.specs.Play.{fresh, insert, delete, find, scans, shown, show, stepped, took, done, ends, sameList, sameTables}
+use Rattle.steps.specs.Play.{fresh, insert, delete, find, scans, shown, show, took, done, ends, sameList, sameTables}
 use Rattle.steps.specs.Hands.{withCounter, withWorker}
 use Rattle.steps.specs.Deletes.{two, three}
 
@@ -110,7 +110,7 @@ pub record Corners : Type 0 where
   pub sound : soundOf scanned && (soundOf withoutLeast && soundOf (done 0 bothScan)) ≡ true
 
 pub corners : Corners
-unfolding stepsOpened fresh insert delete find scans show stepped took done ends sameList sameTables atPhase bothScan withGreatest withoutGreatest withLeast withoutLeast withBoth two three scanned pendingOf foundOf countsOf
+unfolding stepsOpened fresh insert delete find scans show took done ends sameList sameTables atPhase bothScan withGreatest withoutGreatest withLeast withoutLeast withBoth two three scanned pendingOf foundOf countsOf
 corners = record {
   noRecord = refl;
   noPhase = refl;

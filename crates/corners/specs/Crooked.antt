@@ -20,7 +20,7 @@ use Rattle.tables.specs.World.{World}
 use Rattle.steps.specs.Hand.{atWord, holding, withUp, withPup, withSibling, withTaken}
 use Rattle.steps.specs.Turn.{turnOf}
 use Rattle.steps.specs.Opened.{stepsOpened}
-use Rattle.steps.specs.Play.{fresh, delete, turnsAfter, answer, shown, show}
+use Rattle.steps.specs.Play.{fresh, delete, answer, shown, show}
 use Rattle.steps.specs.Hands.{withNode, withPending, doing, hand, classWord, keyWord}
 use Rattle.corners.specs.CrookedTables.{base, inserting, deleting, scanning, later, below, tests, helping, outcomes, outside, Crooks, GoesOn, crooked}
 
@@ -147,7 +147,7 @@ pub record Grandparents : Type 0 where
   pub fillInsertLeafP : Crooks (inserting place.Frozen97 (tests 2 Absent 7 0 0 3))
 
 pub grandparents : Grandparents
-unfolding stepsOpened fresh delete turnsAfter answer show base shallow
+unfolding stepsOpened fresh delete answer show base shallow
 grandparents = record {
   reaches182 = crooked refl;
   reachesPlayed = refl;
@@ -205,7 +205,7 @@ pub record Records : Type 0 where
   pub decides : show (answer 0 (inserting (place.Link Leaf64 State53) (withUp below (update flag (recordNo 3))))) ≡ shown (Refused refusal.Crooked) 1 9 4 0
 
 pub records : Records
-unfolding stepsOpened turnsAfter answer show base outcomes
+unfolding stepsOpened answer show base outcomes
 records = record {
   fillDummy = crooked refl;
   fillFilled = crooked refl;

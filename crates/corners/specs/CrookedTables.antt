@@ -24,7 +24,7 @@ use Rattle.steps.specs.Hand.{atNode, holding, withI, withSibling, withTaken}
 use Rattle.steps.specs.Turn.{turnOf}
 use Rattle.steps.specs.Kept.{turn-keeps}
 use Rattle.steps.specs.Opened.{stepsOpened}
-use Rattle.steps.specs.Play.{fresh, insert, stepped, took, done, sameList}
+use Rattle.steps.specs.Play.{fresh, insert, took, done, sameList}
 use Rattle.steps.specs.Hands.{withNode, withCounter, withWorker, busy, doing, hand, phaseWord}
 use Rattle.steps.specs.Deletes.{two}
 
@@ -109,5 +109,5 @@ crooked {s} e = record { leaves = turn-keeps s 0 refusal.Crooked e }
 
 -- the tables made by hand are those that an evening leaves
 pub played : sameList (flatten rows) (take 90 (two 9 4 .nodes)) && sameList (flatten infos) (take 88 (two 9 4 .records)) ≡ true
-unfolding stepsOpened fresh insert stepped took done sameList two flatten
+unfolding stepsOpened fresh insert took done sameList two flatten
 played = refl

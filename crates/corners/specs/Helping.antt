@@ -19,7 +19,7 @@ use Rattle.tables.specs.Records.{undecided, aborted, countAt, stateAt}
 use Rattle.tables.specs.World.{World, tablesOf}
 use Rattle.sound.specs.Sound.{soundOf}
 use Rattle.steps.specs.Opened.{stepsOpened}
-use Rattle.steps.specs.Play.{fresh, insert, delete, find, scans, toTheEnd, shown, show, stepped, took, done, ends, placeIn, placesOf, sameList, sameTables}
+use Rattle.steps.specs.Play.{fresh, insert, delete, find, scans, toTheEnd, shown, show, took, done, ends, placeIn, placesOf, sameList, sameTables}
 use Rattle.steps.specs.Deletes.{two, three}
 
 -- ---- the handshake fails: insert 5 has flagged the Root in phase 0, then Counter moves
@@ -120,7 +120,7 @@ pub record Helping : Type 0 where
   pub sound : soundOf (done 0 (done 1 scanAborts)) && (soundOf (done 2 findAborts) && (soundOf (done 0 lateFlag) && (soundOf (done 0 lostParent) && (soundOf (done 2 (find 2 (pos 3) lostSibling)) && (soundOf (done 0 (marked 14)) && (soundOf (done 0 between97and98) && (soundOf (done 0 lateChild) && soundOf (done 1 staleParent)))))))) ≡ true
 
 pub helping : Helping
-unfolding stepsOpened fresh insert delete find scans show stepped took done ends placeIn placesOf sameList sameTables two three flagged5 scanAborts findAborts lateFlag lostParent lostSibling marked between97and98 lateChild staleParent
+unfolding stepsOpened fresh insert delete find scans show took done ends placeIn placesOf sameList sameTables two three flagged5 scanAborts findAborts lateFlag lostParent lostSibling marked between97and98 lateChild staleParent
 helping = record {
   scanPlaces = refl;
   scanSays = refl;

@@ -59,5 +59,5 @@ tell r = record { shown = show r; keys = take 5 (r .world .found); sound = sound
 
 -- 3 + 5 × 3 + 4 nodes, 1 + 5 + 4 records, 8 phases; worker 0's starts have set its count to 0 and kept the places behind it
 pub large : tell thousand ≡ record { shown = shown (Said Yes) 1000 22 10 8; keys = pos 5 ∷ pos 4 ∷ pos 3 ∷ pos 2 ∷ pos 1 ∷ []; sound = true }
-unfolding stepsOpened show stepped does eachDoes thousand tell
+unfolding stepsOpened show does eachDoes thousand tell
 large = refl

@@ -16,7 +16,7 @@ use Rattle.tables.specs.Records.{recordWidth}
 use Rattle.tables.specs.World.{World}
 use Rattle.sound.specs.Sound.{soundOf}
 use Rattle.steps.specs.Opened.{stepsOpened}
-use Rattle.steps.specs.Play.{fresh, insert, delete, stepped, took, done}
+use Rattle.steps.specs.Play.{fresh, insert, delete, took, done}
 use Rattle.steps.specs.Hands.{withNode, withRecord, withTotals, withCounter, withUsed, withWorker, busy, hand, exactly, cut, kindWord, classWord, keyWord, phaseWord, hasPrevWord, prevWord, leftWord, rightWord, markWord, infoWord, countWord, stateWord, parWord, oldWord, newWord, seqWord, entryNode, entryType, entryInfo, entryMark}
 
 -- 5 is inserted and is being deleted (N = 8, M = 4): 7 nodes are used, of which the Root 0 and 5 are internal; record 1 lists 2 nodes,
@@ -120,7 +120,7 @@ pub record SpoiledNodes : Type 0 where
   pub noType : soundOf (withNode 3 markWord 2 sound) ≡ false
 
 pub spoiledNodes : SpoiledNodes
-unfolding stepsOpened fresh insert delete stepped took done sound
+unfolding stepsOpened fresh insert delete took done sound
 spoiledNodes = record {
   unspoiled = refl;
   rootLeaf = refl;
@@ -174,7 +174,7 @@ pub record SpoiledRecords : Type 0 where
   pub noMark : soundOf (withRecord 1 (entryMark 2) 2 sound) ≡ false
 
 pub spoiledRecords : SpoiledRecords
-unfolding stepsOpened fresh insert delete stepped took done sound soundness
+unfolding stepsOpened fresh insert delete took done sound soundness
 spoiledRecords = record {
   dummyWords = refl;
   nodesOfTwo = refl;
@@ -217,5 +217,5 @@ pub record Anything : Type 0 where
   pub longer : soundOf (fresh 8 2) ≡ true
 
 pub anything : Anything
-unfolding stepsOpened fresh insert delete stepped took done sound
+unfolding stepsOpened fresh insert delete took done sound
 anything = record { unusedNode = refl; usedNode = refl; unusedRecord = refl; usedRecord = refl; behindCounts = refl; behindList = refl; behindP = refl; withinP = refl; longer = refl }

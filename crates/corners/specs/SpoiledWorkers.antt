@@ -19,7 +19,7 @@ use Rattle.tables.specs.World.{World, blank, idle}
 use Rattle.sound.specs.Sound.{soundOf}
 use Rattle.steps.specs.Hand.{withUp, withPup, withGpup, withSup, withLup, withSibling, withTaken, withI, holding}
 use Rattle.steps.specs.Opened.{stepsOpened}
-use Rattle.steps.specs.Play.{fresh, insert, delete, stepped, took, done}
+use Rattle.steps.specs.Play.{fresh, insert, delete, took, done}
 use Rattle.steps.specs.Hands.{withWorker, withPending, busy, hand, withSeq}
 use Rattle.corners.specs.Spoiled.{sound, soundness, five}
 
@@ -91,7 +91,7 @@ pub record SpoiledWorkers : Type 0 where
   pub scanOther : at (Scan five five) (insertPlaces ++ deletePlaces ++ updatePlaces ++ attemptPlaces) ≡ replicate 17 false
 
 pub spoiledWorkers : SpoiledWorkers
-unfolding stepsOpened fresh insert delete stepped took done sound soundness
+unfolding stepsOpened fresh insert delete took done sound soundness
 spoiledWorkers = record {
   nodes = refl;
   records = refl;

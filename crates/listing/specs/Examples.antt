@@ -8,7 +8,7 @@ use Rattle.shapes.specs.declared.Refusal.the-variants as refusal
 use Rattle.tables.specs.Names.{phase}
 use Rattle.tables.specs.World.{World}
 use Rattle.steps.specs.Opened.{stepsOpened}
-use Rattle.steps.specs.Play.{fresh, insert, delete, scans, turnsAfter, stepped, took, done}
+use Rattle.steps.specs.Play.{fresh, insert, delete, scans, took, done}
 use Rattle.steps.specs.Hands.{withNode, withUsed, withCounter, phaseWord, leftWord, rightWord}
 use Rattle.steps.specs.Errors.{oldScan}
 use Rattle.steps.specs.Deletes.{two, three}
@@ -78,7 +78,7 @@ pub record Examples : Type 0 where
   pub justEnough : version 0 (withUsed 16 4 shared) ≡ listed 16 (pos 5 ∷ pos 7 ∷ pos 5 ∷ pos 7 ∷ pos 5 ∷ pos 7 ∷ pos 5 ∷ pos 7 ∷ pos 5 ∷ pos 7 ∷ pos 5 ∷ pos 7 ∷ pos 5 ∷ pos 7 ∷ pos 5 ∷ pos 7 ∷ [])
 
 pub examples : Examples
-unfolding stepsOpened fresh insert delete scans turnsAfter stepped took done two three oldScan leafKeys atLeaf behind andThen toChild walk intoList listOf version inserted nextPhase threePhases cycle shared tooLate
+unfolding stepsOpened fresh insert delete scans took done two three oldScan leafKeys atLeaf behind andThen toChild walk intoList listOf version inserted nextPhase threePhases cycle shared tooLate
 examples = record {
   ofFresh = refl;
   rising = refl;

@@ -10,7 +10,7 @@ use Rattle.shapes.specs.declared.Refusal.the-variants as refusal
 use Rattle.tables.specs.World.{World}
 use Rattle.tables.specs.Fresh.{Left, refused}
 use Rattle.sound.specs.Sound.{soundOf}
-use Rattle.steps.specs.Turn.{stepOf, turnOf, Ran, goesOn, runFrom, runOf}
+use Rattle.steps.specs.Turn.{stepOf, turnOf, Ran, goesOn, runBy, runFrom, runOf}
 use Rattle.kept.specs.Kept.{turn-keeps-sound}
 use Rattle.turning.specs.Fits.{stepWithin, sound-step}
 use Rattle.running.specs.Loop.{stepsFrom}
@@ -25,7 +25,7 @@ step-keeps-sound s w h = subst (λ (d : Left). soundOf (d .world) ≡ true) (tur
 
 -- looked at once is looked at before every turn
 pub checked-once : (k n w : ℕ) (s : World) → soundOf s ≡ true → runFrom k n w s ≡ stepsFrom k n w s
-unfolding runFrom stepsFrom
+unfolding runBy
 checked-once zero n w s h = refl
 checked-once (suc k) n w s h =
     ap (λ (d : Left). goesOn (d .outcome) (d .world) n (runFrom k (suc n) w (d .world))) (turn-steps s w h) ∙
@@ -33,7 +33,7 @@ checked-once (suc k) n w s h =
 
 -- refusal 1: spoiled tables refuse the first turn, and no turn is counted
 pub spoiled-run : (k w : ℕ) (s : World) → 0 < k → soundOf s ≡ false → runFrom k 0 w s ≡ record { world = s; outcome = Refused refusal.Table; turns = 0 }
-unfolding runFrom turnOf goesOn
+unfolding runBy turnOf goesOn
 spoiled-run zero w s l h = absurd (omega arith)
 spoiled-run (suc k) w s l h = rw (pick-false (soundOf s) (stepOf s w) (refused s refusal.Table) h) refl
 
@@ -48,5 +48,5 @@ going d (Said a) = refl
 going d (Refused r) = refl
 
 pub run-of-one : (s : World) (w : ℕ) → leftBy (runOf 1 s w) ≡ turnOf s w
-unfolding runOf runFrom
+unfolding runOf runBy
 run-of-one s w = going (turnOf s w) (turnOf s w .outcome)

@@ -7,7 +7,7 @@ use Rattle.shapes.specs.declared.Outcome.{Outcome}
 use Rattle.shapes.specs.declared.Outcome.the-variants.{Going, Said, Refused}
 use Rattle.tables.specs.World.{World}
 use Rattle.tables.specs.Fresh.{Left}
-use Rattle.steps.specs.Turn.{Ran, goesOn}
+use Rattle.steps.specs.Turn.{Ran, goesOn, runBy}
 use Rattle.turning.specs.Fits.{stepWithin}
 use Rattle.running.specs.Loop.{isGoing, counted, stepsFrom}
 
@@ -33,7 +33,7 @@ stops (Refused r) s t rest h = refl
 -- d is what the next turn leaves, u the count with it
 module _ (n t w : ℕ) (s : World) (d : Left) (e : d ≡ stepWithin s w) (l : t < n) (u : ℕ) (f : u ≡ counted (d .outcome) t (t + 1)) where
   next : stepsFrom (n - t) t w s ≡ goesOn (d .outcome) (d .world) t (stepsFrom (n - (t + 1)) (t + 1) w (d .world))
-  unfolding stepsFrom
+  unfolding runBy
   next =
       let left : n - t ≡ suc (n - (t + 1)) = omega arith in
       let taken : t + 1 ≡ suc t = omega arith in
@@ -56,5 +56,5 @@ module _ (n t w : ℕ) (s : World) (d : Left) (e : d ≡ stepWithin s w) (l : t 
 
 -- n turns were taken
 pub ends : (n t w : ℕ) (s : World) → n ≤ t → record { world = s; outcome = Going; turns = t } ≡ stepsFrom (n - t) t w s
-unfolding stepsFrom
+unfolding runBy
 ends n t w s l = let none : n - t ≡ 0 = omega arith in rw none refl

@@ -1,5 +1,5 @@
 -- A run's loop: its turns without the looks at the tables.
-use Prim.Native.Nat.{ℕ, zero, suc}
+use Prim.Native.Nat.{ℕ}
 use mathlib.Core.List.{List}
 use mathlib.Core.Bool.{Bool, true, false}
 use lib.IntN.{ℤ}
@@ -7,7 +7,7 @@ use Rattle.shapes.specs.declared.Run.{Run}
 use Rattle.shapes.specs.declared.Outcome.{Outcome}
 use Rattle.shapes.specs.declared.Outcome.the-variants.{Going, Said, Refused}
 use Rattle.tables.specs.World.{World, world}
-use Rattle.steps.specs.Turn.{Ran, goesOn}
+use Rattle.steps.specs.Turn.{Ran, runBy}
 use Rattle.turning.specs.Fits.{stepWithin}
 
 -- all that a run leaves
@@ -15,12 +15,8 @@ abbrev pub ran : Run → List ℕ → List ℕ → List ℕ → List ℤ → Ran
 ran r ns rs ps fs = record { world = world (r .board) ns rs ps fs; outcome = r .outcome; turns = r .turns }
 
 -- `runFrom` without the looks
-unfoldable pub stepsFrom : ℕ → ℕ → ℕ → World → Ran
-stepsFrom zero n w s = record { world = s; outcome = Going; turns = n }
-stepsFrom (suc k) n w s =
-    let d = stepWithin s w in
-    let rest = stepsFrom k (suc n) w (d .world) in
-    goesOn (d .outcome) (d .world) n rest
+abbrev pub stepsFrom : ℕ → ℕ → ℕ → World → Ran
+stepsFrom = runBy stepWithin
 
 unfoldable pub isGoing : Outcome → Bool
 isGoing Going = true

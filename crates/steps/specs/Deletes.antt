@@ -18,7 +18,7 @@ use Rattle.tables.specs.Nodes.{nodeWidth}
 use Rattle.tables.specs.World.{World}
 use Rattle.sound.specs.Sound.{soundOf}
 use Rattle.steps.specs.Opened.{stepsOpened}
-use Rattle.steps.specs.Play.{fresh, insert, delete, toTheEnd, shown, show, stepped, took, done, ends, placeIn, placesOf}
+use Rattle.steps.specs.Play.{fresh, insert, delete, toTheEnd, shown, show, took, done, ends, placeIn, placesOf}
 
 -- 5 and 3: below the Root (0) node 5 (∞1), below it node 8 (key 5) with the leaves 6 (key 3) and 7 (key 5)
 unfoldable pub two : ℕ → ℕ → World
@@ -71,5 +71,5 @@ pub record Deletes : Type 0 where
   pub sound : soundOf (done 0 (delete 0 (pos 5) four)) && soundOf (done 0 (delete 0 (pos 3) (two 16 8))) ≡ true
 
 pub deletes : Deletes
-unfolding stepsOpened fresh insert delete show stepped took done ends placeIn placesOf two three four row
+unfolding stepsOpened fresh insert delete show took done ends placeIn placesOf two three four row
 deletes = record { places = refl; depth3 = refl; depth4 = refl; copyTaken = refl; copyLeft = refl; copyRight = refl; leafSibling = refl; leafPlaces = refl; noNode = refl; noRecord = refl; justEnough = refl; sound = refl }

@@ -18,9 +18,9 @@ use Rattle.tables.specs.Fresh.{Left, refused}
 use Rattle.tables.specs.Nodes.{childAt, updateAt}
 use Rattle.tables.specs.Records.{countAt, stateAt}
 use Rattle.steps.specs.Hand.{atRoot}
-use Rattle.steps.specs.Turn.{Ran, turnOf, findOf, runOf}
+use Rattle.steps.specs.Turn.{Ran, turnOf, findOf, runOf, runFrom}
 use Rattle.steps.specs.Opened.{stepsOpened}
-use Rattle.steps.specs.Play.{fresh, insert, delete, find, scans, turnsAfter, answer, toTheEnd, shown, show, stepped, took, done}
+use Rattle.steps.specs.Play.{fresh, insert, delete, find, scans, answer, toTheEnd, shown, show, took, done}
 use Rattle.steps.specs.Kept.{isRefused}
 use Rattle.steps.specs.Deletes.{two, three}
 use Rattle.steps.specs.Hands.{withNode, withWorker, busy, markWord}
@@ -30,15 +30,15 @@ unfoldable pub oldScan : Ran
 oldScan =
     let a = took 2 1 (scans 1 (pos 0) (pos 9) (fresh 16 4)) in
     let b = done 0 (insert 0 (pos 5) a) in
-    turnsAfter 2 toTheEnd 1 b
+    runFrom toTheEnd 2 1 b
 
 -- insert 5 stands before the CAS of line 103; by hand, the Root's word becomes (MARK, dummy)
 unfoldable pub markedRoot : Ran
-markedRoot = turnsAfter 9 toTheEnd 0 (withNode 0 markWord mark (took 9 0 (insert 0 (pos 5) (fresh 16 4))))
+markedRoot = runFrom toTheEnd 9 0 (withNode 0 markWord mark (took 9 0 (insert 0 (pos 5) (fresh 16 4))))
 
 -- insert 5 stands before the CAS of line 117; by hand, the leaf's word becomes (MARK, dummy)
 unfoldable pub markedLeaf : Ran
-markedLeaf = turnsAfter 13 toTheEnd 0 (withNode 1 markWord mark (took 13 0 (insert 0 (pos 5) (fresh 16 4))))
+markedLeaf = runFrom toTheEnd 13 0 (withNode 1 markWord mark (took 13 0 (insert 0 (pos 5) (fresh 16 4))))
 
 -- after 5, 3 and 7 find 7 comes down to its leaf; delete 3 marks that leaf's parent and commits; 7 is deleted; the find goes on
 unfoldable pub staleFind : Ran
@@ -46,7 +46,7 @@ staleFind =
     let a = took 5 1 (find 1 (pos 7) three) in
     let b = done 0 (delete 0 (pos 3) a) in
     let c = done 0 (delete 0 (pos 7) b) in
-    turnsAfter 5 toTheEnd 1 c
+    runFrom toTheEnd 5 1 c
 
 -- P8 is the first of 01's errors: a record tried without comparing Counter
 pub record Errors : Type 0 where
@@ -60,7 +60,7 @@ pub record Errors : Type 0 where
   pub markWithCommit : show staleFind ≡ shown (Said No) 23 14 6 0
 
 pub errors : Errors
-unfolding stepsOpened fresh insert delete find scans turnsAfter answer show stepped took done two three oldScan markedRoot markedLeaf staleFind
+unfolding stepsOpened fresh insert delete find scans answer show took done two three oldScan markedRoot markedLeaf staleFind
 errors = record { newestChild = refl; onlyTheRecord103 = refl; onlyTheRecord117 = refl; markWithCommit = refl }
 
 -- ---- the five programs that must be rejected
@@ -135,7 +135,7 @@ pub record Rejected : Type 0 where
       (6 ∷ 5 ∷ 0 ∷ 1 ∷ 1 ∷ 1 ∷ 2 ∷ 2 ∷ []) ∷ []
 
 pub rejected : Rejected
-unfolding stepsOpened fresh insert find turnsAfter answer stepped took done starts5 seen diary isRefused isYes
+unfolding stepsOpened fresh insert find answer took done starts5 seen diary isRefused isYes
 rejected = record {
   refusesAlways = λ r same. true≢false (ap (λ (d : Left). isRefused (d .outcome)) (same starts5 0));
   neverYes = λ never. false≢true (never toTheEnd 0 (done 0 starts5) (keyOf (pos 5)));

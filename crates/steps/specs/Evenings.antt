@@ -6,9 +6,9 @@ use lib.IntN.{pos}
 use Rattle.shapes.specs.declared.Outcome.the-variants.{Said}
 use Rattle.shapes.specs.declared.Answer.the-variants.{Yes, No, Keys, NoRoom}
 use Rattle.tables.specs.World.{World}
-use Rattle.steps.specs.Turn.{Ran}
+use Rattle.steps.specs.Turn.{Ran, runFrom}
 use Rattle.steps.specs.Opened.{stepsOpened}
-use Rattle.steps.specs.Play.{fresh, insert, delete, find, scans, turnsAfter, answer, toTheEnd, shown, show, keysOf}
+use Rattle.steps.specs.Play.{fresh, insert, delete, find, scans, answer, toTheEnd, shown, show, keysOf}
 
 -- P2 and what follows it
 unfoldable pub insert5 : Ran
@@ -20,15 +20,15 @@ with5 = insert5 .world
 -- P8: one turn of the insert, a whole scan, then the insert again
 unfoldable pub insertPastScan : Ran
 insertPastScan =
-    let s = turnsAfter 0 1 0 (insert 0 (pos 5) (fresh 16 4)) .world in
-    turnsAfter 1 toTheEnd 0 (answer 1 (scans 1 (pos 0) (pos 9) s) .world)
+    let s = runFrom 1 0 0 (insert 0 (pos 5) (fresh 16 4)) .world in
+    runFrom toTheEnd 1 0 (answer 1 (scans 1 (pos 0) (pos 9) s) .world)
 
 -- P9: twelve turns of the insert, then a scan, then the rest of the insert
 unfoldable pub scanHelps : Ran
-scanHelps = answer 1 (scans 1 (pos 0) (pos 9) (turnsAfter 0 12 0 (insert 0 (pos 5) (fresh 16 4)) .world))
+scanHelps = answer 1 (scans 1 (pos 0) (pos 9) (runFrom 12 0 0 (insert 0 (pos 5) (fresh 16 4)) .world))
 
 unfoldable pub insertHelped : Ran
-insertHelped = turnsAfter 12 toTheEnd 0 (scanHelps .world)
+insertHelped = runFrom toTheEnd 12 0 (scanHelps .world)
 
 -- P10: insert 5, insert 3 with so many nodes
 unfoldable pub twoInserts : ℕ → Ran
@@ -52,5 +52,5 @@ pub record Evenings : Type 0 where
   pub p10-nine : show (twoInserts 9) ≡ shown (Said Yes) 23 9 3 0
 
 pub evenings : Evenings
-unfolding stepsOpened fresh insert delete find scans turnsAfter answer show keysOf insert5 with5 insertPastScan scanHelps insertHelped twoInserts
+unfolding stepsOpened fresh insert delete find scans answer show keysOf insert5 with5 insertPastScan scanHelps insertHelped twoInserts
 evenings = record { p1 = refl; p2 = refl; p3 = refl; p4 = refl; p5 = refl; p6 = refl; p7 = refl; p7-keys = refl; p8 = refl; p9 = refl; p9-keys = refl; p9-insert = refl; p10 = refl; p10-nine = refl }

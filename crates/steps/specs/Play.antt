@@ -17,7 +17,7 @@ use Rattle.tables.specs.Nodes.{nodeWidth}
 use Rattle.tables.specs.Records.{recordWidth}
 use Rattle.tables.specs.World.{World, Tables, totalsOf, idle, workerAt, spot}
 use Rattle.tables.specs.Fresh.{freshOf}
-use Rattle.steps.specs.Turn.{Ran, stepOf, goesOn, insertOf, deleteOf, findOf, scanOf, runFrom}
+use Rattle.steps.specs.Turn.{Ran, stepOf, insertOf, deleteOf, findOf, scanOf, runBy, runFrom}
 
 -- tables for N, M and three workers, lent full of nines, a few places longer than they need be
 abbrev pub lent : ℕ → ℕ → World
@@ -44,16 +44,12 @@ find w k s = findOf s w (keyOf k) .world
 unfoldable pub scans : ℕ → ℤ → ℤ → World → World
 scans w a b s = scanOf s w (keyOf a) (keyOf b) .world
 
--- so many turns of worker w, where it had taken so many before
-unfoldable pub turnsAfter : ℕ → ℕ → ℕ → World → Ran
-turnsAfter before k w s = runFrom k before w s
-
 -- enough turns for any operation that is played here
 abbrev pub toTheEnd : ℕ
 toTheEnd = 100
 
 unfoldable pub answer : ℕ → World → Ran
-answer w s = turnsAfter 0 toTheEnd w s
+answer w s = runFrom toTheEnd 0 w s
 
 -- ---- what an evening shows
 
@@ -78,12 +74,8 @@ keysOf k w r = take k (drop (spot (totalsOf (r .world)) w 0) (r .world .found))
 -- ---- evenings of many operations: the same runs, without asking at each turn whether the tables are sound
 
 -- up to k turns of worker w, which had taken n before
-unfoldable pub stepped : ℕ → ℕ → ℕ → World → Ran
-stepped zero n w s = record { world = s; outcome = Going; turns = n }
-stepped (suc k) n w s =
-    let d = stepOf s w in
-    let rest = stepped k (suc n) w (d .world) in
-    goesOn (d .outcome) (d .world) n rest
+abbrev pub stepped : ℕ → ℕ → ℕ → World → Ran
+stepped = runBy stepOf
 
 -- worker w takes k turns, or all that it has
 unfoldable pub took : ℕ → ℕ → World → World

@@ -149,13 +149,16 @@ goesOn Going s n rest = rest
 goesOn (Said a) s n rest = record { world = s; outcome = Said a; turns = suc n }
 goesOn (Refused r) s n rest = record { world = s; outcome = Refused r; turns = n }
 
--- n turns were taken before
-unfoldable pub runFrom : ℕ → ℕ → ℕ → World → Ran
-runFrom zero n w s = record { world = s; outcome = Going; turns = n }
-runFrom (suc k) n w s =
-    let d = turnOf s w in
-    let rest = runFrom k (suc n) w (d .world) in
+-- by a way to take a turn, where n turns were taken before
+unfoldable pub runBy : (World → ℕ → Left) → ℕ → ℕ → ℕ → World → Ran
+runBy turn zero n w s = record { world = s; outcome = Going; turns = n }
+runBy turn (suc k) n w s =
+    let d = turn s w in
+    let rest = runBy turn k (suc n) w (d .world) in
     goesOn (d .outcome) (d .world) n rest
+
+abbrev pub runFrom : ℕ → ℕ → ℕ → World → Ran
+runFrom = runBy turnOf
 
 unfoldable pub runOf : ℕ → World → ℕ → Ran
 runOf k s w = runFrom k 0 w s

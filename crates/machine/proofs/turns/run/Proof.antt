@@ -3,14 +3,14 @@ use Prim.Native.Nat.{_<_}
 use mathlib.Core.Path.{refl, sym, _∙_}
 use native.Mathlib.Omega.{arith}
 use borrow.Author.Tests.{not-true, not-false}
-use Rattle.steps.specs.Turn.{runFrom, runOf}
+use Rattle.steps.specs.Turn.{runBy, runOf}
 use Rattle.machine.specs.Runs.{checked-once, spoiled-run}
 use borrow.Author.Needs.{needs}
 use Rattle.machine.proofs.turns.run.Statement.{statement}
 use Rattle.machine.proofs.turns.run.Tie as tie
 
 returns : tie.Need-returns
-unfolding runOf runFrom
+unfolding runOf runBy
 returns c = rw (c .if1 .taken) refl
 
 is-sound-requires : tie.Need-is-sound-requires
