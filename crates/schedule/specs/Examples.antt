@@ -58,7 +58,8 @@ pub record Faults : Type 0 where
   pub no-workers : openingAt (0x10 ∷ 0x04 ∷ 0x00 ∷ []) ≡ opening.Faulty
   pub two-sizes : openingAt (0x10 ∷ 0x04 ∷ []) ≡ opening.Faulty
   pub late-fault : scheduleAt (0x10 ∷ 0x04 ∷ 0x02 ∷ 0x05 ∷ 0x00 ∷ 0x01 ∷ 0x06 ∷ []) ≡ faulty
-  pub number-8 : commandNumber command.Faulty ≡ openingNumber opening.Faulty
+  pub command-8 : commandNumber command.Faulty ≡ 8
+  pub opening-8 : openingNumber opening.Faulty ≡ 8
 
 -- "Schedule: at most 65,536 bytes; a longer one is a fault in its opening"
 pub record Longest : Type 0 where
@@ -88,7 +89,7 @@ unfolding pick all spelling mostGroups spelled held joined readUpTo reading code
 examples = record {
   evening = record { read = refl; written = refl };
   each = record { insert-minus-one = refl; delete-lowest = refl; find-highest = refl; scan-a-before-b = refl; turns-128 = refl };
-  faults = record { command-0 = refl; command-6 = refl; turns-0 = refl; nothing = refl; no-worker = refl; key-cut-short = refl; scan-without-b = refl; not-shortest = refl; too-long = refl; too-large = refl; seven-nodes = refl; nodes-1025 = refl; nodes-1024 = refl; no-workers = refl; two-sizes = refl; late-fault = refl; number-8 = refl };
+  faults = record { command-0 = refl; command-6 = refl; turns-0 = refl; nothing = refl; no-worker = refl; key-cut-short = refl; scan-without-b = refl; not-shortest = refl; too-long = refl; too-large = refl; seven-nodes = refl; nodes-1025 = refl; nodes-1024 = refl; no-workers = refl; two-sizes = refl; late-fault = refl; command-8 = refl; opening-8 = refl };
   longest = record { bytes-65536 = λ s e. not-too-long s (omega arith); bytes-65537 = λ s e. too-long s (omega arith) };
   refusals = record { turns-0 = refl; seven-nodes = refl; past-65536 = refl; at-65536 = refl; short-by-one = refl; just-fits = refl; number-8 = refl; number-2 = refl };
 }
