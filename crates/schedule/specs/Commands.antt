@@ -60,7 +60,7 @@ unfolding commandBytes numbersOf accepted numbersIn built commandOf pick
 command-reads (Insert worker key) rest p = numbers-built insert (worker ∷ codeOf key ∷ []) rest (p .fits) refl ∙ rw (signed-code key)
 command-reads (Delete worker key) rest p = numbers-built delete (worker ∷ codeOf key ∷ []) rest (p .fits) refl ∙ rw (signed-code key)
 command-reads (Find worker key) rest p = numbers-built find (worker ∷ codeOf key ∷ []) rest (p .fits) refl ∙ rw (signed-code key)
-command-reads (Scan worker a b) rest p = numbers-built scan (worker ∷ codeOf a ∷ codeOf b ∷ []) rest (p .fits) refl ∙ rw (signed-code a, signed-code b)
+command-reads (Scan worker a b) rest p = numbers-built scan (worker ∷ codeOf a ∷ codeOf b ∷ []) rest (p .fits) refl ∙ rw (signed-code a, signed-code b) refl
 command-reads (Turns worker n) rest p = numbers-built turns (worker ∷ n ∷ []) rest (p .fits) refl ∙ pick-false _ _ _ (ne-eqb n 0 (λ e. omega (arith, ltb-true 0 n (p .some))))
 
 -- ---- a command has bytes
