@@ -31,6 +31,7 @@ use Rattle.steps.specs.Apply.{apply}
 use Rattle.steps.specs.Scan.{Lists, Range, bump131, word139, state140, leaves, comesTo, reads, child141, left144}
 use Rattle.steps.specs.Turn.{pendingLeft}
 use Rattle.steps.specs.Decide.{scan}
+use Rattle.steps.specs.Ways.{scan-places}
 use Rattle.kept.specs.Later.{hand-later}
 use Rattle.kept.specs.Fits.{Parent}
 use Rattle.kept.specs.Takings.{grows-bump}
@@ -120,24 +121,13 @@ module _ (s : Tables) (h : TablesSound s) (v : Locals) (hand : HandSound (s .tot
 
   pub scan-good : (a b : Key) (q : Place) → Allowed scanHome 0 (s .records) v (ls .pending) q → G (scan s ls a b v q)
   unfolding scan scanHome
-  scan-good a b place.Counter74 i = tt
-  scan-good a b place.Search39 i = tt
-  scan-good a b (place.Link c d) i = tt
-  scan-good a b place.Word66 i = tt
-  scan-good a b place.Grand66 i = tt
-  scan-good a b place.Leaf164 i = tt
-  scan-good a b place.Sibling182 i = tt
-  scan-good a b place.CopyLeft i = tt
-  scan-good a b place.CopyRight i = tt
-  scan-good a b place.Word189 i = tt
-  scan-good a b place.Leaf190 i = tt
-  scan-good a b place.Frozen97 i = tt
-  scan-good a b place.State98 i = tt
-  scan-good a b place.Freeze103 i = tt
-  scan-good a b (place.Help c d) i = next-good s h scanHome 0 (ls .pending) (ls .found) d v _ hand (λ _. i .0) (node-returns d (i .0)) (help-good s h (v .info) (hand .info) (v .i) c (i .1))
-  scan-good a b place.Counter130 i = good-goes s h scanHome 0 (ls .pending) (ls .found) _ place.Bump131 (hand-bare s h _ root dummy (omega arith) (omega (arith, h .used .least-nodes)) no-record) (refl, tt)
-  scan-good a b place.Bump131 i = bump-good
-  scan-good a b place.Word139 i = word-good
-  scan-good a b place.State140 i = state-good
-  scan-good a b place.Child141 i = child-good _ refl
-  scan-good a b place.Left144 i = left-good _ refl (i .1)
+  scan-good a b =
+      scan-places s s ls a b v (λ q d _. Allowed scanHome 0 (s .records) v (ls .pending) q → G d)
+      (λ q i. tt)
+      (λ c d i. next-good s h scanHome 0 (ls .pending) (ls .found) d v _ hand (λ _. i .0) (node-returns d (i .0)) (help-good s h (v .info) (hand .info) (v .i) c (i .1)))
+      (λ i. good-goes s h scanHome 0 (ls .pending) (ls .found) _ place.Bump131 (hand-bare s h _ root dummy (omega arith) (omega (arith, h .used .least-nodes)) no-record) (refl, tt))
+      (λ i. bump-good)
+      (λ i. word-good)
+      (λ i. state-good)
+      (λ i. child-good _ refl)
+      (λ i. left-good _ refl (i .1))

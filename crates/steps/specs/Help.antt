@@ -55,10 +55,14 @@ frozen119 ns rs r i =
     (pick (ltb i (countAt rs r)) (help.Goes effect.Nothing (i + 1) Freeze117) (reads Child123))
     (reads State125)
 
--- lines 84 to 87: new's side of the parent, if old stands there
+-- line 84: the side of the parent on which new is set
+abbrev pub casLeft : List ℕ → NodeNo → NodeNo → Bool
+casLeft ns parent new = ltb (keyAt ns new) (keyAt ns parent)
+
+-- lines 84 to 87, if old stands there
 unfoldable pub casChild : List ℕ → NodeNo → NodeNo → NodeNo → Effect
 casChild ns parent old new =
-    let left = ltb (keyAt ns new) (keyAt ns parent) in
+    let left = casLeft ns parent new in
     pick (sameNode (childAt ns parent left) old) (effect.Link parent left new) effect.Nothing
 
 -- line 125

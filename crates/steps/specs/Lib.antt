@@ -7,6 +7,7 @@ pub mod Help
 pub mod Scan
 pub mod Decide
 pub mod Apply
+pub mod Ways
 pub mod Turn
 pub mod Opened
 pub mod Play

@@ -7,7 +7,6 @@ use lib.ListN.{replicate, take, drop}
 use lib.IntN.{ℤ, pos}
 use Rattle.laws.specs.Choice.{pick}
 use Rattle.shapes.specs.declared.Outcome.{Outcome}
-use Rattle.shapes.specs.declared.Outcome.the-variants.{Going}
 use Rattle.shapes.specs.declared.Place.{Place}
 use Rattle.shapes.specs.declared.Operation.the-variants.{Insert, Delete, Find, Scan}
 use Rattle.shapes.specs.declared.Condition.{Condition}

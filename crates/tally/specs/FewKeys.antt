@@ -41,6 +41,7 @@ use Rattle.steps.specs.Execute.{fillInsert, fillDelete, fills, frozen97, state9
 use Rattle.steps.specs.Help.{backTo, helpNext}
 use Rattle.steps.specs.Scan.{Lists, Range, bump131, word139, state140, leaves, comesTo, reads, child141, left144}
 use Rattle.steps.specs.Decide.{attempt, scan, decide}
+use Rattle.steps.specs.Ways.{through-each, scan-places}
 use Rattle.schedule.specs.declared.Command.the-variants.{Insert, Delete, Find, Scan}
 
 -- ---- what counts no more keys than there can be nodes
@@ -66,9 +67,7 @@ either : (b : Bool) (x y : Decision) → FewDecision x → FewDecision y → Few
 either b x y p q = fork FewDecision b (λ _. p) (λ _. q)
 
 with-node : (m : MaybeNode) (g : NodeNo → Decision) → ((x : NodeNo) → FewDecision (g x)) → FewDecision (through m g)
-unfolding through
-with-node Absent g h = tt
-with-node (At x) g h = h x
+with-node = through-each FewDecision tt
 
 module _ (s : Tables) (v : Locals) where
   validated-few : (o : Kind) (k : Key) → FewDecision (validated (s .totals) (s .nodes) o k v)
@@ -144,27 +143,16 @@ module _ (s : Tables) (v : Locals) where
 
     scan-few : (a b : Key) (q : Place) → FewDecision (scan s ls a b v q)
     unfolding scan bump131 word139 state140 child141 left144
-    scan-few a b place.Counter74 = tt
-    scan-few a b place.Search39 = tt
-    scan-few a b (place.Link c d) = tt
-    scan-few a b place.Word66 = tt
-    scan-few a b place.Grand66 = tt
-    scan-few a b place.Leaf164 = tt
-    scan-few a b place.Sibling182 = tt
-    scan-few a b place.CopyLeft = tt
-    scan-few a b place.CopyRight = tt
-    scan-few a b place.Word189 = tt
-    scan-few a b place.Leaf190 = tt
-    scan-few a b place.Frozen97 = tt
-    scan-few a b place.State98 = tt
-    scan-few a b place.Freeze103 = tt
-    scan-few a b (place.Help c d) = help-few d _
-    scan-few a b place.Counter130 = tt
-    scan-few a b place.Bump131 = either _ _ _ tt tt
-    scan-few a b place.Word139 = with-node _ _ (λ x. tt)
-    scan-few a b place.State140 = either _ _ _ tt tt
-    scan-few a b place.Child141 = with-node _ _ (λ x. either _ _ _ (reads-few _ _ _ x _) (either _ _ _ (reads-few _ _ _ x _) (either _ _ _ (reads-few _ _ _ x _) tt)))
-    scan-few a b place.Left144 = with-node _ _ (λ x. reads-few _ _ _ x _)
+    scan-few a b =
+        scan-places s s ls a b v (λ _ d _. FewDecision d)
+        (λ _. tt)
+        (λ c d. help-few d _)
+        tt
+        (either _ _ _ tt tt)
+        (with-node _ _ (λ x. tt))
+        (either _ _ _ tt tt)
+        (with-node _ _ (λ x. either _ _ _ (reads-few _ _ _ x _) (either _ _ _ (reads-few _ _ _ x _) (either _ _ _ (reads-few _ _ _ x _) tt))))
+        (with-node _ _ (λ x. reads-few _ _ _ x _))
 
     pub decide-few : (o : Operation) → FewDecision (decide s ls o v)
     unfolding decide
