@@ -21,7 +21,7 @@ use Rattle.steps.specs.Scan.{Lists}
 use Rattle.steps.specs.Decide.{decide}
 use Rattle.steps.specs.Play.{fresh}
 use Rattle.kept.specs.Touched.{child, word, valueAt}
-use Rattle.looks.specs.Looked.{wordOf, childOf, linkLooks, casLeft, helpLooks, attemptLooks, scansLeft, scanLooks, lookedAt}
+use Rattle.looks.specs.Looked.{wordOf, childOf, linkLooks, helpLooks, scansLeft, placeLooks, lookedAt}
 
 unfoldable pub base : Tables
 base = tablesOf (fresh 16 4)
@@ -75,5 +75,5 @@ pub record Examples : Type 0 where
   pub copy-changed : compares (apply (effect.CopyChild (node 5) true (node 1)) three) ≡ goes copied (place.Link Right188 Word52)
 
 pub examples : Examples
-unfolding stepsOpened fresh base elsewhere filled three valueAt wordOf childOf linkLooks casLeft helpLooks attemptLooks scansLeft scanLooks lookedAt
+unfolding stepsOpened fresh base elsewhere filled three valueAt wordOf childOf linkLooks helpLooks scansLeft placeLooks lookedAt
 examples = record { looked = refl; same = refl; at-leaf = refl; at-other = refl; beyond = refl; beyond-undecided = refl; beyond-trying = refl; copy = refl; copy-differs = refl; copy-changed = refl }

@@ -28,6 +28,7 @@ use Rattle.tables.specs.World.{Tables}
 use Rattle.steps.specs.Search.{goesLeft}
 use Rattle.steps.specs.Validate.{linkParent, siblingLeft, linkLeft}
 use Rattle.steps.specs.Execute.{oldUpdate}
+use Rattle.steps.specs.Help.{casLeft}
 use Rattle.steps.specs.Scan.{Lists}
 use Rattle.kept.specs.Touched.{Changeable, counter, child, word, state, none}
 
@@ -46,10 +47,6 @@ linkLooks s k v a Word52 = wordOf (linkParent v a)
 linkLooks s k v a State53 = state (v .up .info)
 linkLooks s k v a Child57 = childOf (linkParent v a) (linkLeft (s .nodes) k v a)
 
--- line 84: the side on which CAS-CHILD sets new
-unfoldable pub casLeft : List ℕ → NodeNo → NodeNo → Bool
-casLeft ns parent new = ltb (keyAt ns new) (keyAt ns parent)
-
 -- HELP; lines 112, 113, 117, 118 and 123 are a CAS, lines 124 and 126 only write
 unfoldable pub helpLooks : Tables → RecordNo → ℕ → HelpStep → Changeable
 helpLooks s r i Counter111 = counter
@@ -64,61 +61,38 @@ helpLooks s r i State125 = state r
 helpLooks s r i Abort126 = state r
 helpLooks s r i State127 = state r
 
--- a scan's places are not an attempt's: it would be crooked
-unfoldable pub attemptLooks : Tables → Kind → Key → Locals → Place → Changeable
-attemptLooks s o k v place.Counter74 = counter
-attemptLooks s o k v place.Search39 = child (v .p) (goesLeft (s .nodes) k (v .p))
-attemptLooks s o k v (place.Link a b) = linkLooks s k v a b
-attemptLooks s o k v place.Word66 = word (v .p)
-attemptLooks s o k v place.Grand66 = wordOf (v .gp)
-attemptLooks s o k v place.Leaf164 = word (v .l)
-attemptLooks s o k v place.Sibling182 = child (v .p) (siblingLeft (s .nodes) v)
--- line 185
-attemptLooks s o k v place.CopyLeft = child (v .sibling) true
-attemptLooks s o k v place.CopyRight = child (v .sibling) false
-attemptLooks s o k v place.Word189 = word (v .sibling)
-attemptLooks s o k v place.Leaf190 = word (v .l)
-attemptLooks s o k v place.Frozen97 = state (oldUpdate o v (v .i) .info)
-attemptLooks s o k v place.State98 = state (oldUpdate o v (v .i) .info)
-attemptLooks s o k v place.Freeze103 = word (entryAt (s .records) (v .info) 1 .node)
-attemptLooks s o k v (place.Help b c) = helpLooks s (v .info) (v .i) b
-attemptLooks s o k v place.Counter130 = none
-attemptLooks s o k v place.Bump131 = none
-attemptLooks s o k v place.Word139 = none
-attemptLooks s o k v place.State140 = none
-attemptLooks s o k v place.Child141 = none
-attemptLooks s o k v place.Left144 = none
-
 -- lines 141 to 143: left alone where the key is above b; else right, alone or with left to follow
 unfoldable pub scansLeft : List ℕ → Key → Key → NodeNo → Bool
 scansLeft ns a b x = pick (ltb (keyAt ns x) (a .0)) false (ltb (b .0) (keyAt ns x))
 
--- an attempt's places are not a scan's
-unfoldable pub scanLooks : Tables → Lists → Key → Key → Locals → Place → Changeable
-scanLooks s ls a b v place.Counter74 = none
-scanLooks s ls a b v place.Search39 = none
-scanLooks s ls a b v (place.Link c d) = none
-scanLooks s ls a b v place.Word66 = none
-scanLooks s ls a b v place.Grand66 = none
-scanLooks s ls a b v place.Leaf164 = none
-scanLooks s ls a b v place.Sibling182 = none
-scanLooks s ls a b v place.CopyLeft = none
-scanLooks s ls a b v place.CopyRight = none
-scanLooks s ls a b v place.Word189 = none
-scanLooks s ls a b v place.Leaf190 = none
-scanLooks s ls a b v place.Frozen97 = none
-scanLooks s ls a b v place.State98 = none
-scanLooks s ls a b v place.Freeze103 = none
-scanLooks s ls a b v (place.Help c d) = helpLooks s (v .info) (v .i) c
-scanLooks s ls a b v place.Counter130 = counter
-scanLooks s ls a b v place.Bump131 = counter
-scanLooks s ls a b v place.Word139 = word (v .p)
-scanLooks s ls a b v place.State140 = state (v .info)
-scanLooks s ls a b v place.Child141 = child (v .p) (scansLeft (s .nodes) a b (v .p))
-scanLooks s ls a b v place.Left144 = child (ls .top) true
+-- the place tells the word: attempts and scans share only HELP's, so one list serves all; a and b are both the key of an attempt
+unfoldable pub placeLooks : Tables → Lists → Kind → Key → Key → Locals → Place → Changeable
+placeLooks s ls o a b v place.Counter74 = counter
+placeLooks s ls o a b v place.Search39 = child (v .p) (goesLeft (s .nodes) a (v .p))
+placeLooks s ls o a b v (place.Link c d) = linkLooks s a v c d
+placeLooks s ls o a b v place.Word66 = word (v .p)
+placeLooks s ls o a b v place.Grand66 = wordOf (v .gp)
+placeLooks s ls o a b v place.Leaf164 = word (v .l)
+placeLooks s ls o a b v place.Sibling182 = child (v .p) (siblingLeft (s .nodes) v)
+-- line 185
+placeLooks s ls o a b v place.CopyLeft = child (v .sibling) true
+placeLooks s ls o a b v place.CopyRight = child (v .sibling) false
+placeLooks s ls o a b v place.Word189 = word (v .sibling)
+placeLooks s ls o a b v place.Leaf190 = word (v .l)
+placeLooks s ls o a b v place.Frozen97 = state (oldUpdate o v (v .i) .info)
+placeLooks s ls o a b v place.State98 = state (oldUpdate o v (v .i) .info)
+placeLooks s ls o a b v place.Freeze103 = word (entryAt (s .records) (v .info) 1 .node)
+placeLooks s ls o a b v (place.Help c d) = helpLooks s (v .info) (v .i) c
+placeLooks s ls o a b v place.Counter130 = counter
+placeLooks s ls o a b v place.Bump131 = counter
+placeLooks s ls o a b v place.Word139 = word (v .p)
+placeLooks s ls o a b v place.State140 = state (v .info)
+placeLooks s ls o a b v place.Child141 = child (v .p) (scansLeft (s .nodes) a b (v .p))
+placeLooks s ls o a b v place.Left144 = child (ls .top) true
 
+-- a scan has no old words, so its kind is any
 unfoldable pub lookedAt : Tables → Lists → Operation → Locals → Changeable
-lookedAt s ls (Insert k q) v = attemptLooks s kind.Insert k v q
-lookedAt s ls (Delete k q) v = attemptLooks s kind.Delete k v q
-lookedAt s ls (Find k q) v = attemptLooks s kind.Find k v q
-lookedAt s ls (Scan a b q) v = scanLooks s ls a b v q
+lookedAt s ls (Insert k q) v = placeLooks s ls kind.Insert k k v q
+lookedAt s ls (Delete k q) v = placeLooks s ls kind.Delete k k v q
+lookedAt s ls (Find k q) v = placeLooks s ls kind.Find k k v q
+lookedAt s ls (Scan a b q) v = placeLooks s ls kind.Find a b v q

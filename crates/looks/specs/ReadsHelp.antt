@@ -19,7 +19,7 @@ use Rattle.sound.specs.Homes.{inList}
 use Rattle.steps.specs.Help.{counter111, stateCas, state114, freezeCas, frozen119, casChild, state125, helpStep, helpOf, helpNext}
 use Rattle.steps.specs.Scan.{Lists, Range, bump131, word139, state140, within, comesTo, reads, child141, left144}
 use Rattle.kept.specs.Touched.{counter, child, word, state}
-use Rattle.looks.specs.Looked.{casLeft, helpLooks, scansLeft}
+use Rattle.looks.specs.Looked.{helpLooks, scansLeft}
 use Rattle.looks.specs.Alike.{Alike}
 use Rattle.looks.specs.Common.{SameAt, same-pick, same-counter, same-child, same-word, same-state, same-internal, same-rank, same-key, with-node, with-child, same-count, same-par, same-old, same-new, same-seq, same-entry, same-helpable}
 
@@ -27,7 +27,7 @@ module _ (s t : Tables) (a : Alike s t) where
   -- ---- HELP
 
   same-step : (r : RecordNo) (i : ℕ) (b : HelpStep) → (inList b ≡ true → (1 ≤ i) × (i ≤ 4)) → SameAt s t (helpLooks s r i b) → helpStep t r i b ≡ helpStep s r i b
-  unfolding helpStep helpLooks casLeft counter111 stateCas state114 freezeCas frozen119 casChild state125 inList
+  unfolding helpStep helpLooks counter111 stateCas state114 freezeCas frozen119 casChild state125 inList
   same-step r i Counter111 l e = rw (same-counter s t e, same-seq s t a r)
   same-step r i Abort112 l e = rw (same-state s t r e)
   same-step r i Try113 l e = rw (same-state s t r e)

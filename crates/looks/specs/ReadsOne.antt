@@ -21,8 +21,9 @@ use Rattle.sound.specs.Meaning.{Within, HandSound, PlaceSound, TablesSound}
 use Rattle.sound.specs.Agree.{count-small}
 use Rattle.steps.specs.Scan.{Lists}
 use Rattle.steps.specs.Decide.{attempt, scan, decide}
+use Rattle.steps.specs.Ways.{scan-places}
 use Rattle.kept.specs.Touched.{valueAt}
-use Rattle.looks.specs.Looked.{attemptLooks, scanLooks, lookedAt}
+use Rattle.looks.specs.Looked.{placeLooks, lookedAt}
 use Rattle.looks.specs.Alike.{Alike, OwnCopy, InRow, placeOf}
 use Rattle.looks.specs.Common.{SameAt, same-counter}
 use Rattle.looks.specs.ReadsAttempt.{search-one, word66-one, grand66-one, sibling-one, copy-one, sibling-word-one, leaf-one, frozen97-one, state98-one, freeze103-one}
@@ -30,59 +31,48 @@ use Rattle.looks.specs.ReadsLink.{link-one}
 use Rattle.looks.specs.ReadsHelp.{help-one, bump-one, word139-one, state140-one, child141-one, left144-one}
 
 module _ (s t : Tables) (a : Alike s t) (v : Locals) where
-  attempt-one : (o : Kind) (k : Key) (q : Place) → OwnCopy s t v q → InRow v q → SameAt s t (attemptLooks s o k v q) → attempt t o k v q ≡ attempt s o k v q
-  unfolding attempt attemptLooks
-  attempt-one o k place.Counter74 own row e = rw (same-counter s t e)
-  attempt-one o k place.Search39 own row e = search-one s t a v k e
-  attempt-one o k (place.Link c b) own row e = link-one s t a v k c b own e
-  attempt-one o k place.Word66 own row e = word66-one s t a v o k e
-  attempt-one o k place.Grand66 own row e = grand66-one s t a v o k e
-  attempt-one o k place.Leaf164 own row e = leaf-one s t a v e
-  attempt-one o k place.Sibling182 own row e = sibling-one s t a v e
-  attempt-one o k place.CopyLeft own row e = copy-one s t a v true e
-  attempt-one o k place.CopyRight own row e = copy-one s t a v false e
-  attempt-one o k place.Word189 own row e = sibling-word-one s t a v e
-  attempt-one o k place.Leaf190 own row e = leaf-one s t a v e
-  attempt-one o k place.Frozen97 own row e = frozen97-one s t a v o e
-  attempt-one o k place.State98 own row e = state98-one s t a v o e
-  attempt-one o k place.Freeze103 own row e = freeze103-one s t a v e
-  attempt-one o k (place.Help b c) own row e = help-one s t a v b c (row b c refl) e
-  attempt-one o k place.Counter130 own row e = refl
-  attempt-one o k place.Bump131 own row e = refl
-  attempt-one o k place.Word139 own row e = refl
-  attempt-one o k place.State140 own row e = refl
-  attempt-one o k place.Child141 own row e = refl
-  attempt-one o k place.Left144 own row e = refl
+  attempt-one : (ls : Lists) (o : Kind) (k : Key) (q : Place) → OwnCopy s t v q → InRow v q → SameAt s t (placeLooks s ls o k k v q) → attempt t o k v q ≡ attempt s o k v q
+  unfolding attempt placeLooks
+  attempt-one ls o k place.Counter74 own row e = rw (same-counter s t e)
+  attempt-one ls o k place.Search39 own row e = search-one s t a v k e
+  attempt-one ls o k (place.Link c b) own row e = link-one s t a v k c b own e
+  attempt-one ls o k place.Word66 own row e = word66-one s t a v o k e
+  attempt-one ls o k place.Grand66 own row e = grand66-one s t a v o k e
+  attempt-one ls o k place.Leaf164 own row e = leaf-one s t a v e
+  attempt-one ls o k place.Sibling182 own row e = sibling-one s t a v e
+  attempt-one ls o k place.CopyLeft own row e = copy-one s t a v true e
+  attempt-one ls o k place.CopyRight own row e = copy-one s t a v false e
+  attempt-one ls o k place.Word189 own row e = sibling-word-one s t a v e
+  attempt-one ls o k place.Leaf190 own row e = leaf-one s t a v e
+  attempt-one ls o k place.Frozen97 own row e = frozen97-one s t a v o e
+  attempt-one ls o k place.State98 own row e = state98-one s t a v o e
+  attempt-one ls o k place.Freeze103 own row e = freeze103-one s t a v e
+  attempt-one ls o k (place.Help b c) own row e = help-one s t a v b c (row b c refl) e
+  attempt-one ls o k place.Counter130 own row e = refl
+  attempt-one ls o k place.Bump131 own row e = refl
+  attempt-one ls o k place.Word139 own row e = refl
+  attempt-one ls o k place.State140 own row e = refl
+  attempt-one ls o k place.Child141 own row e = refl
+  attempt-one ls o k place.Left144 own row e = refl
 
-  scan-one : (ls : Lists) (low high : Key) (q : Place) → InRow v q → SameAt s t (scanLooks s ls low high v q) → scan t ls low high v q ≡ scan s ls low high v q
-  unfolding scan scanLooks
-  scan-one ls low high place.Counter74 row e = refl
-  scan-one ls low high place.Search39 row e = refl
-  scan-one ls low high (place.Link c b) row e = refl
-  scan-one ls low high place.Word66 row e = refl
-  scan-one ls low high place.Grand66 row e = refl
-  scan-one ls low high place.Leaf164 row e = refl
-  scan-one ls low high place.Sibling182 row e = refl
-  scan-one ls low high place.CopyLeft row e = refl
-  scan-one ls low high place.CopyRight row e = refl
-  scan-one ls low high place.Word189 row e = refl
-  scan-one ls low high place.Leaf190 row e = refl
-  scan-one ls low high place.Frozen97 row e = refl
-  scan-one ls low high place.State98 row e = refl
-  scan-one ls low high place.Freeze103 row e = refl
-  scan-one ls low high (place.Help b c) row e = help-one s t a v b c (row b c refl) e
-  scan-one ls low high place.Counter130 row e = rw (same-counter s t e)
-  scan-one ls low high place.Bump131 row e = bump-one s t a v e
-  scan-one ls low high place.Word139 row e = word139-one s t a v e
-  scan-one ls low high place.State140 row e = state140-one s t a v e
-  scan-one ls low high place.Child141 row e = child141-one s t a low high ls v e
-  scan-one ls low high place.Left144 row e = left144-one s t a _ ls e
+  scan-one : (ls : Lists) (low high : Key) (q : Place) → InRow v q → SameAt s t (placeLooks s ls kind.Find low high v q) → scan t ls low high v q ≡ scan s ls low high v q
+  unfolding scan placeLooks
+  scan-one ls low high =
+      scan-places s t ls low high v (λ q d e. InRow v q → SameAt s t (placeLooks s ls kind.Find low high v q) → e ≡ d)
+      (λ q row e. refl)
+      (λ b c row e. help-one s t a v b c (row b c refl) e)
+      (λ row e. rw (same-counter s t e))
+      (λ row e. bump-one s t a v e)
+      (λ row e. word139-one s t a v e)
+      (λ row e. state140-one s t a v e)
+      (λ row e. child141-one s t a low high ls v e)
+      (λ row e. left144-one s t a _ ls e)
 
 pub reads-one : (s t : Tables) (ls : Lists) (o : Operation) (v : Locals) → Alike s t → OwnCopy s t v (placeOf o) → InRow v (placeOf o) → valueAt t (lookedAt s ls o v) ≡ valueAt s (lookedAt s ls o v) → decide t ls o v ≡ decide s ls o v
 unfolding decide lookedAt placeOf
-reads-one s t ls (Insert k q) v a own row e = attempt-one s t a v kind.Insert k q own row e
-reads-one s t ls (Delete k q) v a own row e = attempt-one s t a v kind.Delete k q own row e
-reads-one s t ls (Find k q) v a own row e = attempt-one s t a v kind.Find k q own row e
+reads-one s t ls (Insert k q) v a own row e = attempt-one s t a v ls kind.Insert k q own row e
+reads-one s t ls (Delete k q) v a own row e = attempt-one s t a v ls kind.Delete k q own row e
+reads-one s t ls (Find k q) v a own row e = attempt-one s t a v ls kind.Find k q own row e
 reads-one s t ls (Scan low high q) v a own row e = scan-one s t a v ls low high q row e
 
 -- ---- sound tables keep i within the row

@@ -21,7 +21,7 @@ use Rattle.tables.specs.Records.{parAt, newChildAt}
 use Rattle.tables.specs.World.{Tables}
 use Rattle.sound.specs.Homes.{inList}
 use Rattle.steps.specs.Scan.{Lists}
-use Rattle.looks.specs.Looked.{linkLooks, casLeft, helpLooks, attemptLooks, scansLeft, scanLooks, lookedAt}
+use Rattle.looks.specs.Looked.{linkLooks, helpLooks, scansLeft, placeLooks, lookedAt}
 use Rattle.looks.specs.Alike.{Alike, placeOf, InRow}
 use Rattle.looks.specs.Common.{same-key, same-par, same-new, same-entry}
 use Rattle.looks.specs.ReadsAttempt.{same-goes, same-sibling}
@@ -35,7 +35,7 @@ module _ (s t : Tables) (a : Alike s t) (v : Locals) where
   link-look k c Child57 = rw (same-side s t a v k c)
 
   help-look : (r : RecordNo) (i : ℕ) (b : HelpStep) → (inList b ≡ true → (1 ≤ i) × (i ≤ 4)) → helpLooks t r i b ≡ helpLooks s r i b
-  unfolding helpLooks casLeft inList
+  unfolding helpLooks inList
   help-look r i Counter111 l = refl
   help-look r i Abort112 l = refl
   help-look r i Try113 l = refl
@@ -48,57 +48,33 @@ module _ (s t : Tables) (a : Alike s t) (v : Locals) where
   help-look r i Abort126 l = refl
   help-look r i State127 l = refl
 
-  attempt-look : (o : Kind) (k : Key) (q : Place) → InRow v q → attemptLooks t o k v q ≡ attemptLooks s o k v q
-  unfolding attemptLooks
-  attempt-look o k place.Counter74 row = refl
-  attempt-look o k place.Search39 row = rw (same-goes s t a v k (v .p))
-  attempt-look o k (place.Link c b) row = link-look k c b
-  attempt-look o k place.Word66 row = refl
-  attempt-look o k place.Grand66 row = refl
-  attempt-look o k place.Leaf164 row = refl
-  attempt-look o k place.Sibling182 row = rw (same-sibling s t a v)
-  attempt-look o k place.CopyLeft row = refl
-  attempt-look o k place.CopyRight row = refl
-  attempt-look o k place.Word189 row = refl
-  attempt-look o k place.Leaf190 row = refl
-  attempt-look o k place.Frozen97 row = refl
-  attempt-look o k place.State98 row = refl
-  attempt-look o k place.Freeze103 row = rw (same-entry s t a (v .info) 1 (omega arith) (omega arith))
-  attempt-look o k (place.Help b c) row = help-look (v .info) (v .i) b (row b c refl)
-  attempt-look o k place.Counter130 row = refl
-  attempt-look o k place.Bump131 row = refl
-  attempt-look o k place.Word139 row = refl
-  attempt-look o k place.State140 row = refl
-  attempt-look o k place.Child141 row = refl
-  attempt-look o k place.Left144 row = refl
-
-  scan-look : (ls : Lists) (low high : Key) (q : Place) → InRow v q → scanLooks t ls low high v q ≡ scanLooks s ls low high v q
-  unfolding scanLooks scansLeft
-  scan-look ls low high place.Counter74 row = refl
-  scan-look ls low high place.Search39 row = refl
-  scan-look ls low high (place.Link c b) row = refl
-  scan-look ls low high place.Word66 row = refl
-  scan-look ls low high place.Grand66 row = refl
-  scan-look ls low high place.Leaf164 row = refl
-  scan-look ls low high place.Sibling182 row = refl
-  scan-look ls low high place.CopyLeft row = refl
-  scan-look ls low high place.CopyRight row = refl
-  scan-look ls low high place.Word189 row = refl
-  scan-look ls low high place.Leaf190 row = refl
-  scan-look ls low high place.Frozen97 row = refl
-  scan-look ls low high place.State98 row = refl
-  scan-look ls low high place.Freeze103 row = refl
-  scan-look ls low high (place.Help b c) row = help-look (v .info) (v .i) b (row b c refl)
-  scan-look ls low high place.Counter130 row = refl
-  scan-look ls low high place.Bump131 row = refl
-  scan-look ls low high place.Word139 row = refl
-  scan-look ls low high place.State140 row = refl
-  scan-look ls low high place.Child141 row = rw (same-key s t a (v .p))
-  scan-look ls low high place.Left144 row = refl
+  place-look : (ls : Lists) (o : Kind) (low high : Key) (q : Place) → InRow v q → placeLooks t ls o low high v q ≡ placeLooks s ls o low high v q
+  unfolding placeLooks scansLeft
+  place-look ls o low high place.Counter74 row = refl
+  place-look ls o low high place.Search39 row = rw (same-goes s t a v low (v .p))
+  place-look ls o low high (place.Link c b) row = link-look low c b
+  place-look ls o low high place.Word66 row = refl
+  place-look ls o low high place.Grand66 row = refl
+  place-look ls o low high place.Leaf164 row = refl
+  place-look ls o low high place.Sibling182 row = rw (same-sibling s t a v)
+  place-look ls o low high place.CopyLeft row = refl
+  place-look ls o low high place.CopyRight row = refl
+  place-look ls o low high place.Word189 row = refl
+  place-look ls o low high place.Leaf190 row = refl
+  place-look ls o low high place.Frozen97 row = refl
+  place-look ls o low high place.State98 row = refl
+  place-look ls o low high place.Freeze103 row = rw (same-entry s t a (v .info) 1 (omega arith) (omega arith))
+  place-look ls o low high (place.Help b c) row = help-look (v .info) (v .i) b (row b c refl)
+  place-look ls o low high place.Counter130 row = refl
+  place-look ls o low high place.Bump131 row = refl
+  place-look ls o low high place.Word139 row = refl
+  place-look ls o low high place.State140 row = refl
+  place-look ls o low high place.Child141 row = rw (same-key s t a (v .p))
+  place-look ls o low high place.Left144 row = refl
 
 pub same-look : (s t : Tables) (ls : Lists) (o : Operation) (v : Locals) → Alike s t → InRow v (placeOf o) → lookedAt t ls o v ≡ lookedAt s ls o v
 unfolding lookedAt placeOf
-same-look s t ls (Insert k q) v a row = attempt-look s t a v kind.Insert k q row
-same-look s t ls (Delete k q) v a row = attempt-look s t a v kind.Delete k q row
-same-look s t ls (Find k q) v a row = attempt-look s t a v kind.Find k q row
-same-look s t ls (Scan low high q) v a row = scan-look s t a v ls low high q row
+same-look s t ls (Insert k q) v a row = place-look s t a v ls kind.Insert k k q row
+same-look s t ls (Delete k q) v a row = place-look s t a v ls kind.Delete k k q row
+same-look s t ls (Find k q) v a row = place-look s t a v ls kind.Find k k q row
+same-look s t ls (Scan low high q) v a row = place-look s t a v ls kind.Find low high q row
