@@ -2,12 +2,12 @@
 use shapes::Condition;
 use shapes::Locals;
 use shapes::MaybeNode;
-use shapes::NodeNo;
 use shapes::Phase;
-use shapes::RecordNo;
 use shapes::Update;
 use shapes::Worker;
+use tables::DUMMY;
 use tables::FLAG;
+use tables::ROOT;
 ghost use mathlib.Core.Path.{_≡_};
 ghost use Rattle.tables.specs.World.{blank, idle};
 
@@ -17,9 +17,9 @@ pub fn blank() -> Locals
 {
     let u = Update {
         mark: FLAG,
-        info: RecordNo(0),
+        info: DUMMY,
     };
-    let x = NodeNo(0);
+    let x = ROOT;
     Locals {
         seq: Phase(0),
         gp: MaybeNode::Absent,
@@ -32,7 +32,7 @@ pub fn blank() -> Locals
         up: u,
         sibling: x,
         made: x,
-        info: RecordNo(0),
+        info: DUMMY,
         i: 0,
     }
 }

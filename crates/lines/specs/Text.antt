@@ -115,7 +115,7 @@ keysAt found from (suc n) = getD found from (pos 0) ∷ keysAt found (suc from) 
 abbrev pub keysText : List ℤ → ℕ → ℕ → List ℕ
 keysText found from n = spaced (map signed (keysAt found from n))
 
--- the most keys that a line lists: as many as there can be nodes, so that it fits its page
+-- the most keys that a line lists: as many as there can be nodes (01, 'Sizes'), so that it fits its page
 abbrev pub mostKeys : ℕ
 mostKeys = mostN
 

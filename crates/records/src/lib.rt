@@ -6,8 +6,10 @@ use shapes::Phase;
 use shapes::RecordNo;
 use shapes::Update;
 use tables::COMMIT;
+use tables::DUMMY;
 use tables::FLAG;
 use tables::RECORD_WIDTH;
+use tables::ROOT;
 use words::get;
 use words::put_word;
 use words::word;
@@ -117,18 +119,18 @@ pub fn unfilled() -> Filling
 {
     let old = Update {
         mark: FLAG,
-        info: RecordNo(0),
+        info: DUMMY,
     };
     let none = Entry {
-        node: NodeNo(0),
+        node: ROOT,
         old,
         mark: 0,
     };
     Filling {
         count: 0,
-        par: NodeNo(0),
-        old: NodeNo(0),
-        new: NodeNo(0),
+        par: ROOT,
+        old: ROOT,
+        new: ROOT,
         seq: Phase(0),
         first: none,
         second: none,
