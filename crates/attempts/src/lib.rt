@@ -1,4 +1,6 @@
 // The words that an attempt reads (lines 66, 164, 189, 190), and what each operation does with a validated leaf (lines 78 and 79, 159, 181).
+#![tactic(auto)]
+
 ghost use Rattle.std.specs.Prelude.{◌≡◌};
 ghost use Rattle.steps.specs.Attempt.{reaches182, validated, word66, grand66, word189, leaf_word};
 

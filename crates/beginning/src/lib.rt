@@ -1,4 +1,6 @@
 // A start, of whatever operation: refusal 1, then 3, then 4. A start writes only the board, which goes by value.
+#![tactic(auto)]
+
 ghost use Rattle.std.specs.Prelude.{◌≡◌};
 ghost use Rattle.tables.specs.World.{world};
 ghost use Rattle.tables.specs.Fresh.{left};

@@ -1,4 +1,6 @@
 // The board by value: a worker of it read and set, and the reply that hands it back refused.
+#![tactic(auto)]
+
 ghost use Rattle.std.specs.Prelude.{◌≡◌, get_or, set};
 ghost use Rattle.tables.specs.World.{idle};
 ghost use Rattle.boards.specs.Boards.{worker_of, with_worker, refused_by};

@@ -98,7 +98,7 @@ fn call(
 // ---- what it left
 
 // Everything lent and everything kept, as numbers.
-#[derive(Drop)]
+#[derive(Clone, Copy)]
 struct Sums {
     lent: u32,
     kept: u32,

@@ -9,7 +9,7 @@ use crate::telling::say;
 use shapes::{Board, Totals};
 
 // How much of each list is lent, as the script says.
-#[derive(Drop)]
+#[derive(Clone, Copy)]
 pub struct Lent {
     pub nodes: u32,
     pub records: u32,
@@ -18,7 +18,7 @@ pub struct Lent {
     pub keys: u32,
 }
 
-#[derive(Drop)]
+#[derive(Clone, Copy)]
 pub struct Desk {
     pub board: Board,
     pub lent: Lent,

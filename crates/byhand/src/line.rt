@@ -4,7 +4,7 @@ ghost use Rattle.std.specs.Prelude.{◌≤◌, length};
 use shapes::Key;
 
 // A line taken apart.
-#[derive(Drop)]
+#[derive(Clone, Copy)]
 pub struct Words {
     pub command: u8,
     pub first: u32,
@@ -15,7 +15,7 @@ pub struct Words {
 }
 
 // A number that is being read: the spaces passed so far, its digits so far, and whether a minus was met.
-#[derive(Drop)]
+#[derive(Clone, Copy)]
 struct Reading {
     spaces: u32,
     digits: u32,

@@ -15,6 +15,8 @@
 //
 // A call prints its line, what it came to, nodes and records used and Counter, the worker's pending and found, a digest of everything
 // lent, and whether all that is lent and kept is the same as before.
+#![tactic(auto)]
+
 mod line; // the words of a line
 mod places; // places by code
 mod digest; // everything lent as a number

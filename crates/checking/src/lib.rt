@@ -1,4 +1,6 @@
 // The code that tells sound tables from spoiled ones.
+#![tactic(auto)]
+
 ghost use Rattle.std.specs.Prelude.{◌≡◌};
 ghost use Rattle.tables.specs.World.{world};
 ghost use Rattle.sound.specs.Sound.{sound_of};

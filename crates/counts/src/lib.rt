@@ -1,4 +1,6 @@
 // The accepted turns of each worker's operation.
+#![tactic(auto)]
+
 ghost use Rattle.std.specs.Prelude.{◌≡◌, get_or, set};
 ghost use Rattle.tally.specs.Playing.{counted, started_counts};
 

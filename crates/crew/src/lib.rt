@@ -1,4 +1,6 @@
 // The code that tells sound workers from spoiled ones.
+#![tactic(auto)]
+
 mod lists; // counts and pending nodes
 
 ghost use Rattle.std.specs.Prelude.{◌≡◌, true, ◌&&◌, List, ℕ, ℤ};

@@ -1,4 +1,6 @@
 // What a turn decides: by the operation, then by its place.
+#![tactic(auto)]
+
 ghost use Rattle.std.specs.Prelude.{◌≡◌};
 ghost use Rattle.tables.specs.World.{tables};
 ghost use Rattle.steps.specs.Decide.{attempt, decide};

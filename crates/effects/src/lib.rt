@@ -1,4 +1,6 @@
 // What an effect does to the tables: the only code that writes shared words.
+#![tactic(auto)]
+
 mod totals; // what is used, and Counter
 mod making; // nodes and records as they are taken
 

@@ -1,4 +1,6 @@
 // EXECUTE (lines 92 to 106): what a turn in it decides.
+#![tactic(auto)]
+
 mod fillings; // line 102: what the record is filled with
 
 ghost use Rattle.std.specs.Prelude.{◌≡◌};

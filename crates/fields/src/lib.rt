@@ -1,4 +1,6 @@
 // The code of the tables, total on any list: READCHILD, keys, sizes; fields from words, nodes and records are handed on.
+#![tactic(auto)]
+
 mod keys; // keys as numbers, and back
 mod versions; // READCHILD
 mod workers; // a worker that holds no operation

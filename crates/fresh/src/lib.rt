@@ -1,4 +1,6 @@
 // 01, 'Fresh tables'.
+#![tactic(auto)]
+
 mod clearing; // the first places of a list 0
 mod making; // each table fresh
 

@@ -1,4 +1,6 @@
 // Numbers in groups of seven bits, lowest first, the top bit set when another follows, shortest form only.
+#![tactic(auto)]
+
 ghost use Rattle.std.specs.Prelude.{◌≡◌, length};
 ghost use Rattle.groups.specs.Format.{groups_of, code_of, signed_of};
 
@@ -19,7 +21,7 @@ const FOUR_GROUPS: u32 = 268_435_456;
 pub const MOST_GROUPS: usize = 5;
 
 // Why bytes are no number.
-#[derive(Drop)]
+#[derive(Clone, Copy)]
 pub enum Fault {
     CutShort,
     NotShortest,
@@ -28,20 +30,20 @@ pub enum Fault {
 }
 
 // A number and how many bytes it took, so where the rest begins; or why there is none.
-#[derive(Drop)]
+#[derive(Clone, Copy)]
 pub enum Reading {
     Number(u32, usize),
     Faulty(Fault),
 }
 
-#[derive(Drop)]
+#[derive(Clone, Copy)]
 pub enum SignedReading {
     Number(i32, usize),
     Faulty(Fault),
 }
 
 // Where the bytes written end, or that there is no room for them.
-#[derive(Drop)]
+#[derive(Clone, Copy)]
 pub enum Written {
     End(usize),
     TooShort,

@@ -1,4 +1,6 @@
 // What a worker takes into its hand, and the decisions that leave its lists alone.
+#![tactic(auto)]
+
 mod making; // hands made anew
 mod taking; // one thing more taken into a hand
 mod decisions; // what a turn can decide where it leaves the lists alone

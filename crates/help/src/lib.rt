@@ -1,4 +1,6 @@
 // HELP (lines 107 to 128) with CAS-CHILD: what a turn in it comes to, for its four calls.
+#![tactic(auto)]
+
 mod freezing; // lines 111 to 122: a state, and the nodes frozen in order
 mod linking; // lines 84 to 87 and 123 to 125: CAS-CHILD, and how the record ended
 

@@ -1,4 +1,6 @@
 // Which places belong to which operation, and which of them stand in a list.
+#![tactic(auto)]
+
 ghost use Rattle.std.specs.Prelude.{◌≡◌};
 ghost use Rattle.sound.specs.Homes.{is_insert, is_delete, is_update, listed, link_home, back_home, attempt_home, is_node, scan_home, in_list};
 

@@ -1,9 +1,11 @@
 // What is read: a file to its end, or as much as shows that it is too long.
+#![tactic(auto)]
+
 ghost use Rattle.std.specs.Prelude.{◌≡◌, length};
 ghost use Rattle.input.specs.Input.{Within};
 
 // How a reading ended: with so many bytes, or not at all.
-#[derive(Drop)]
+#[derive(Clone, Copy)]
 pub enum Input {
     Came(usize),
     Unreadable,

@@ -1,4 +1,6 @@
 // A lap's difference and entry as one key, and back; and the difference that a pad reports.
+#![tactic(auto)]
+
 ghost use Rattle.std.specs.Prelude.{◌≡◌};
 ghost use Rattle.laps.specs.Laps.{between, difference_in_range, lap_in_range, lap_at, told_key, told_lap, told_pad, key_of_lap, lap_of_key, difference_of_pad};
 
@@ -24,28 +26,28 @@ const MOST_PAD: i32 = 10000000;
 const PER_HUNDREDTH: i32 = 10;
 
 // A lap: hundredths from par, and the entry number.
-#[derive(Drop)]
+#[derive(Clone, Copy)]
 pub struct Lap {
     pub difference: i32,
     pub entry: u32,
 }
 
 // The key of a lap, or refusal 6.
-#[derive(Drop)]
+#[derive(Clone, Copy)]
 pub enum KeyAnswer {
     Key(i32),
     Refused,
 }
 
 // The lap of a key, or refusal 6.
-#[derive(Drop)]
+#[derive(Clone, Copy)]
 pub enum LapAnswer {
     Lap(Lap),
     Refused,
 }
 
 // The difference of a pad's report, or refusal 6.
-#[derive(Drop)]
+#[derive(Clone, Copy)]
 pub enum PadAnswer {
     Difference(i32),
     Refused,

@@ -14,6 +14,8 @@
 //     p     i32 thousandths            pad -14 = -1                     the difference
 //
 // What is refused says so, by `fault` and a reason or by `refused` and a number.
+#![tactic(auto)]
+
 mod numbers; // what bytes of a row stand for
 mod buffers; // numbers written to be shown
 mod telling; // the words of a line

@@ -1,4 +1,6 @@
 // How a line of the program is spelt: what there is to print, and the parts of a line put on a page.
+#![tactic(auto)]
+
 mod page; // bytes, texts and numbers put one behind the other
 mod words; // the words of an answer, a refusal's number, how many keys are listed
 
@@ -8,7 +10,7 @@ pub use words::{listed, put_answer, refusal_number};
 
 // What there is to print: nothing; command, worker, answer and turns taken; command, worker and refusal; commands read, nodes
 // used, records used and Counter; the command with a fault.
-#[derive(Drop)]
+#[derive(Clone, Copy)]
 pub enum Line {
     Quiet,
     Answered(u32, u32, Answer, u64),

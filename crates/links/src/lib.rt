@@ -1,4 +1,6 @@
 // The links that an attempt validates: what follows a turn inside VALIDATELINK, and DELETE's sibling (line 182).
+#![tactic(auto)]
+
 ghost use Rattle.std.specs.Prelude.{◌≡◌};
 ghost use Rattle.tables.specs.World.{tables};
 ghost use Rattle.steps.specs.Attempt.{held, link_next, link_step, sibling182};

@@ -1,4 +1,6 @@
 // The code of the version listing: a walk down from the Root, first to see that it is not crooked, then into the lent list.
+#![tactic(auto)]
+
 mod walk; // the walk, by levels
 
 ghost use Rattle.std.specs.Prelude.{◌≡◌};
@@ -12,7 +14,7 @@ use shapes::{Board, Phase, Refusal};
 use tables::ROOT;
 
 // How many keys stand in the list, or why it was left as it was.
-#[derive(Drop)]
+#[derive(Clone, Copy)]
 pub enum Listing {
     Keys(usize),
     Refused(Refusal),

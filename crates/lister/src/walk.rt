@@ -8,7 +8,7 @@ use fields::{is_internal, number_of, put_key, rank_at, read_child};
 use shapes::{Key, MaybeNode, NodeNo, Phase};
 
 // Crooked; or how many leaves may still be met, and the place of the next key.
-#[derive(Drop)]
+#[derive(Clone, Copy)]
 pub enum Walking {
     Crooked,
     On(u32, usize),

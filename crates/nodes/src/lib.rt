@@ -1,4 +1,6 @@
 // A node's fields, read and written by name.
+#![tactic(auto)]
+
 ghost use Rattle.std.specs.Prelude.{◌≡◌};
 ghost use Rattle.tables.specs.Names.{value, same_node, same_record, same_update};
 ghost use Rattle.tables.specs.Nodes.{kind_at, is_internal, rank_at, key_at, phase_at, prev_at, child_at, update_at, set_child, set_update};

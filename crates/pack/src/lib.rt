@@ -1,4 +1,6 @@
 // The code that writes a number in groups of seven bits.
+#![tactic(auto)]
+
 ghost use Rattle.std.specs.Prelude.{◌≡◌, ◌+◌, ◌≤◌, length};
 ghost use Rattle.std.proofs.lemmas.List.Edits.{sets};
 ghost use Rattle.groups.specs.Format.{groups_of, left, write_of, write_signed_of};

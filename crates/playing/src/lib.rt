@@ -1,4 +1,6 @@
 // What each command of a schedule does to the tables and to the turn counts, and the line that it prints.
+#![tactic(auto)]
+
 ghost use Rattle.std.specs.Prelude.{◌≡◌};
 ghost use Rattle.tables.specs.World.{world};
 ghost use Rattle.tally.specs.Playing.{told, evening, play_of};

@@ -1,5 +1,7 @@
 // Reads a schedule: its opening, then one command after another, each from the front of what the one before it left.
 // An enum holds no reference, so an answer says where the rest begins, and its caller hands on `&rest[end..]`.
+#![tactic(auto)]
+
 ghost use Rattle.std.specs.Prelude.{◌≡◌};
 ghost use Rattle.schedule.specs.Reading.{numbers_at, opening_at, command_of, command_at};
 ghost use Rattle.reader.specs.Three.{three_of};
@@ -11,7 +13,7 @@ use schedule::{
 };
 
 // Three numbers and where the rest begins; or a fault.
-#[derive(Drop)]
+#[derive(Clone, Copy)]
 enum Three {
     Numbers(u32, u32, u32, usize),
     Faulty,

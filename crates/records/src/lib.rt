@@ -1,4 +1,6 @@
 // A record's fields, read and written by name.
+#![tactic(auto)]
+
 ghost use Rattle.std.specs.Prelude.{◌≡◌, ◌+◌, ◌*◌, ◌≤◌};
 ghost use Rattle.tables.specs.Records.{record_word, count_at, state_at, par_at, old_child_at, new_child_at, seq_at, entry_at, set_state, unfilled, helpable, fillable, in_progress};
 

@@ -1,4 +1,6 @@
 // The code that tells a sound row of the tables from a spoiled one.
+#![tactic(auto)]
+
 mod numbers; // numbers that refer to used ones
 mod nodes; // a node, all nodes, the Root
 mod records; // a record, all records, the dummy

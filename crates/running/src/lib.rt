@@ -1,4 +1,6 @@
 // A run's turns, on tables that have been looked at.
+#![tactic(auto)]
+
 ghost use Rattle.std.specs.Prelude.{◌≡◌};
 ghost use Rattle.tables.specs.World.{world};
 ghost use Rattle.running.specs.Loop.{is_going, counted, ran, steps_from};

@@ -1,4 +1,6 @@
 // What a scan's turn decides, by its place; and a turn inside HELP, which attempts have too.
+#![tactic(auto)]
+
 ghost use Rattle.std.specs.Prelude.{◌≡◌};
 ghost use Rattle.tables.specs.World.{tables};
 ghost use Rattle.steps.specs.Help.{help_of, help_next};

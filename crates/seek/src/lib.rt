@@ -1,4 +1,6 @@
 // The code of SEARCH and VALIDATELINK: what a turn there reads, and what it comes to.
+#![tactic(auto)]
+
 mod search; // down from a node to the child that the attempt's phase sees
 mod validate; // one call of VALIDATELINK, and the arguments of the five
 

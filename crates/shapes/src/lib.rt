@@ -1,35 +1,36 @@
 // The types of the lap index: what stands in the tables, what a worker holds, what a turn decides.
+#![tactic(auto)]
 
 // Numbers that are never taken for one another: the report's Node pointer, Info pointer and seq.
-#[derive(Drop)]
+#[derive(Clone, Copy)]
 pub struct NodeNo(pub u32);
 
-#[derive(Drop)]
+#[derive(Clone, Copy)]
 pub struct RecordNo(pub u32);
 
-#[derive(Drop)]
+#[derive(Clone, Copy)]
 pub struct Phase(pub u32);
 
 // A finite key k as k + 2^31, so that the order of keys is the order of numbers.
-#[derive(Drop)]
+#[derive(Clone, Copy)]
 pub struct Key(pub u32);
 
 // The key of a node: class 0 a finite key, 1 is ∞1, 2 is ∞2; the word of an infinite key is 0.
-#[derive(Drop)]
+#[derive(Clone, Copy)]
 pub struct Rank {
     pub class: u32,
     pub word: u32,
 }
 
 // An update word (lines 1 to 4): mark 0 is FLAG, 1 is MARK.
-#[derive(Drop)]
+#[derive(Clone, Copy)]
 pub struct Update {
     pub mark: u32,
     pub info: RecordNo,
 }
 
 // A node that may be absent: a grandparent, a prev.
-#[derive(Drop)]
+#[derive(Clone, Copy)]
 pub enum MaybeNode {
     Absent,
     At(NodeNo),
@@ -39,7 +40,7 @@ pub enum MaybeNode {
 
 // What an operation has in hand at its place; what it has not read yet is 0 or absent.
 // A scan has its phase, its node as p, and the record and place of HELP.
-#[derive(Drop)]
+#[derive(Clone, Copy)]
 pub struct Locals {
     pub seq: Phase,
     pub gp: MaybeNode,
@@ -57,7 +58,7 @@ pub struct Locals {
 }
 
 // The calls of VALIDATELINK, by their lines.
-#[derive(Drop)]
+#[derive(Clone, Copy)]
 pub enum Link {
     Leaf64,
     Parent65,
@@ -67,7 +68,7 @@ pub enum Link {
 }
 
 // Inside VALIDATELINK: the update word, the frozen test, the child word.
-#[derive(Drop)]
+#[derive(Clone, Copy)]
 pub enum LinkStep {
     Word52,
     State53,
@@ -75,7 +76,7 @@ pub enum LinkStep {
 }
 
 // Inside HELP; Freeze117 stands for line 118 too, Child123 for lines 85 and 87.
-#[derive(Drop)]
+#[derive(Clone, Copy)]
 pub enum HelpStep {
     Counter111,
     Abort112,
@@ -91,7 +92,7 @@ pub enum HelpStep {
 }
 
 // Where HELP returns to: line 104, a new attempt (lines 54 and 98), or the scan's node (line 140).
-#[derive(Drop)]
+#[derive(Clone, Copy)]
 pub enum Back {
     Own,
     Again,
@@ -99,7 +100,7 @@ pub enum Back {
 }
 
 // What the next turn does, by the line of the report that it executes.
-#[derive(Drop)]
+#[derive(Clone, Copy)]
 pub enum Place {
     Counter74,
     Search39,
@@ -124,7 +125,7 @@ pub enum Place {
     Left144,
 }
 
-#[derive(Drop)]
+#[derive(Clone, Copy)]
 pub enum Operation {
     Insert(Key, Place),
     Delete(Key, Place),
@@ -132,14 +133,14 @@ pub enum Operation {
     Scan(Key, Key, Place),
 }
 
-#[derive(Drop)]
+#[derive(Clone, Copy)]
 pub enum Condition {
     Idle,
     Busy(Operation),
 }
 
 // The counts are of the worker's pending nodes and found keys, which stand in lists of their own.
-#[derive(Drop)]
+#[derive(Clone, Copy)]
 pub struct Worker {
     pub condition: Condition,
     pub hand: Locals,
@@ -150,7 +151,7 @@ pub struct Worker {
 // ---- the board: what is kept beside the lent tables
 
 // N, M and P, the nodes and records used, and Counter.
-#[derive(Drop)]
+#[derive(Clone, Copy)]
 pub struct Totals {
     pub n: u32,
     pub m: u32,
@@ -160,7 +161,7 @@ pub struct Totals {
     pub counter: u32,
 }
 
-#[derive(Drop)]
+#[derive(Clone, Copy)]
 pub struct Board {
     pub totals: Totals,
     pub workers: [Worker; 8],
@@ -169,7 +170,7 @@ pub struct Board {
 // ---- answers
 
 // Keys holds how many; they stand in the worker's found list.
-#[derive(Drop)]
+#[derive(Clone, Copy)]
 pub enum Answer {
     Yes,
     No,
@@ -179,7 +180,7 @@ pub enum Answer {
 }
 
 // The refusals of a call on tables, by name; their numbers are in specs/.
-#[derive(Drop)]
+#[derive(Clone, Copy)]
 pub enum Refusal {
     Table,
     Size,
@@ -190,7 +191,7 @@ pub enum Refusal {
 }
 
 // What a start or a turn comes to.
-#[derive(Drop)]
+#[derive(Clone, Copy)]
 pub enum Outcome {
     Going,
     Said(Answer),
@@ -198,14 +199,14 @@ pub enum Outcome {
 }
 
 // What a call answers: the board as it leaves it, and what it came to.
-#[derive(Drop)]
+#[derive(Clone, Copy)]
 pub struct Reply {
     pub board: Board,
     pub outcome: Outcome,
 }
 
 // What a run of turns answers, with the turns taken.
-#[derive(Drop)]
+#[derive(Clone, Copy)]
 pub struct Run {
     pub board: Board,
     pub outcome: Outcome,
@@ -215,7 +216,7 @@ pub struct Run {
 // ---- what a turn decides
 
 // The operations that make attempts.
-#[derive(Drop)]
+#[derive(Clone, Copy)]
 pub enum Kind {
     Insert,
     Delete,
@@ -223,7 +224,7 @@ pub enum Kind {
 }
 
 // One node of a record: nodes[i], oldUpdate[i], and 1 where nodes[i] appears in mark.
-#[derive(Drop)]
+#[derive(Clone, Copy)]
 pub struct Entry {
     pub node: NodeNo,
     pub old: Update,
@@ -231,7 +232,7 @@ pub struct Entry {
 }
 
 // All that line 102 puts into a record.
-#[derive(Drop)]
+#[derive(Clone, Copy)]
 pub struct Filling {
     pub count: u32,
     pub par: NodeNo,
@@ -245,7 +246,7 @@ pub struct Filling {
 }
 
 // All that other workers can notice of a turn.
-#[derive(Drop)]
+#[derive(Clone, Copy)]
 pub enum Effect {
     Nothing,
     Bump,
@@ -258,26 +259,26 @@ pub enum Effect {
     Link(NodeNo, bool, NodeNo),
 }
 
-#[derive(Drop)]
+#[derive(Clone, Copy)]
 pub enum PendingChange {
     Keep,
     Push(NodeNo),
     Pop,
 }
 
-#[derive(Drop)]
+#[derive(Clone, Copy)]
 pub enum FoundChange {
     Keep,
     Add(Key),
 }
 
-#[derive(Drop)]
+#[derive(Clone, Copy)]
 pub enum Next {
     At(Place),
     Answers(Answer),
 }
 
-#[derive(Drop)]
+#[derive(Clone, Copy)]
 pub struct Step {
     pub effect: Effect,
     pub hand: Locals,
@@ -286,14 +287,14 @@ pub struct Step {
     pub next: Next,
 }
 
-#[derive(Drop)]
+#[derive(Clone, Copy)]
 pub enum Decision {
     Crooked,
     Go(Step),
 }
 
 // What a turn inside VALIDATELINK comes to.
-#[derive(Drop)]
+#[derive(Clone, Copy)]
 pub enum LinkMove {
     Crooked,
     Goes(LinkStep, Update),
@@ -303,7 +304,7 @@ pub enum LinkMove {
 }
 
 // What a turn inside HELP comes to: its effect, the place in the list and the next step, or what HELP returns.
-#[derive(Drop)]
+#[derive(Clone, Copy)]
 pub enum HelpMove {
     Crooked,
     Goes(Effect, u32, HelpStep),

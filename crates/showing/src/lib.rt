@@ -1,6 +1,8 @@
 // A schedule played on tables of the largest sizes, its lines written out one by one.
 //
 // What is written cannot be said in a contract: the logic has no word for it. All else is a proved function of a library.
+#![tactic(auto)]
+
 ghost use Rattle.std.specs.Prelude.{◌≡◌, ◌+◌, ◌≤◌, length};
 ghost use Rattle.schedule.specs.Numbers.{most_bytes};
 
@@ -14,7 +16,7 @@ use spelling::spell;
 use tally::{Played, end_line, keys_place, no_board};
 
 // What became of a command: its bytes, or none where the evening ended with it; and whether its line was written.
-#[derive(Drop)]
+#[derive(Clone, Copy)]
 struct Shown {
     taken: usize,
     said: bool,
@@ -147,7 +149,7 @@ pub fn show(out: i32, file: &[u8]) -> bool {
 }
 
 // How an evening ended: all its lines written, or why not.
-#[derive(Drop)]
+#[derive(Clone, Copy)]
 pub enum Ending {
     Shown,
     Unreadable,

@@ -1,4 +1,6 @@
 // The code that spells a line.
+#![tactic(auto)]
+
 mod keys; // the keys of a scan
 
 ghost use Rattle.std.specs.Prelude.{◌≡◌};

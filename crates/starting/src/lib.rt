@@ -1,4 +1,6 @@
 // The four starts: each begins its operation at that operation's first place.
+#![tactic(auto)]
+
 ghost use Rattle.std.specs.Prelude.{◌≡◌};
 ghost use Rattle.tables.specs.Names.{key_of};
 ghost use Rattle.tables.specs.World.{world};

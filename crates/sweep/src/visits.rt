@@ -11,7 +11,7 @@ use shapes::{
 };
 
 // A call of SCANHELPER: the range, the phase, and the scan's lists as the change will leave them.
-#[derive(Drop)]
+#[derive(Clone, Copy)]
 pub struct Visit {
     pub low: Key,
     pub high: Key,

@@ -1,4 +1,6 @@
 // The numbers of 01 and the report, each with its name.
+#![tactic(auto)]
+
 use shapes::{NodeNo, RecordNo};
 
 // 01, 'Sizes'.

@@ -1,4 +1,6 @@
 // Taking nodes and a record, together or not at all (lines 161 to 163, 185), and the child words of a copy.
+#![tactic(auto)]
+
 ghost use Rattle.std.specs.Prelude.{◌≡◌};
 ghost use Rattle.steps.specs.Attempt.{room, take_three, take_copy, copy_word};
 

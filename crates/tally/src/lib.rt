@@ -1,4 +1,6 @@
 // What a command leaves, the board before the first, where the keys of a line stand, and the last line.
+#![tactic(auto)]
+
 mod opening; // the board before the first command
 
 ghost use Rattle.std.specs.Prelude.{◌≡◌, ◌*◌};
@@ -9,7 +11,7 @@ pub use opening::no_board;
 use shapes::{Board, Totals};
 
 // The board and the turn counts as a command leaves them, and its line.
-#[derive(Drop)]
+#[derive(Clone, Copy)]
 pub struct Played {
     pub board: Board,
     pub turns: [u64; 8],

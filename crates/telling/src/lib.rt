@@ -1,4 +1,6 @@
 // What a call's outcome leaves and prints.
+#![tactic(auto)]
+
 ghost use Rattle.std.specs.Prelude.{◌≡◌, get_or, set};
 ghost use Rattle.tally.specs.Playing.{counted, started_counts, line_of, played};
 

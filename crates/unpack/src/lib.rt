@@ -1,4 +1,6 @@
 // The code that reads a number in groups of seven bits.
+#![tactic(auto)]
+
 ghost use Rattle.std.specs.Prelude.{◌≡◌};
 ghost use Rattle.groups.specs.Format.{bits, read_up_to, read_of, fault_of, read_signed_of};
 

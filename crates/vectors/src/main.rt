@@ -1,4 +1,6 @@
 // Plays the schedules whose names stand on standard input, a line to each, and prints each name and its lines.
+#![tactic(auto)]
+
 use input::{Input, read_all, room};
 use libc::{STDIN_FILENO, STDOUT_FILENO};
 use showing::{Ending, show_from};

@@ -1,4 +1,6 @@
 // Total reads and writes of a flat table: a place past the end reads 0, a write there changes nothing. One word or key, a whole row.
+#![tactic(auto)]
+
 ghost use Rattle.std.specs.Prelude.{◌≡◌, length, get_or, set};
 ghost use Rattle.tables.specs.Rows.{word, put_word, put_row};
 ghost use Rattle.tables.specs.Nodes.{new_node};

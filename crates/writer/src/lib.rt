@@ -1,4 +1,6 @@
 // Writes a schedule: its opening, then one command after another, each behind the one before it.
+#![tactic(auto)]
+
 ghost use Rattle.std.specs.Prelude.{◌≡◌, true, [], ◌∷◌, ◌+◌, ◌≤◌, length};
 ghost use Rattle.std.proofs.lemmas.List.Edits.{sets};
 ghost use Rattle.schedule.specs.Format.{spelled_all, numbers_of, accepted};
@@ -10,7 +12,7 @@ use groups::code;
 use schedule::{Command, DELETE, FIND, INSERT, MOST_BYTES, Refusal, SCAN, TURNS, Writing};
 
 // The numbers of an opening or a command; d counts where there are four.
-#[derive(Drop)]
+#[derive(Clone, Copy)]
 struct Numbers {
     a: u32,
     b: u32,
