@@ -68,7 +68,7 @@ module _ (s : World) (h : Sound s) (w : ℕ) where
   settled_framed o d good =
       let kept = effect_keeps d.effect (tables_of s) h.shared good.fits in
       unfold settled in record {
-        workers = λ u ne. unfold worker_at in get_or-set_other s.board.workers w u _ idle ne;
+        workers = others_stay;
         pending = λ u i ne l. pushed_other d.pending good.pending u i ne l;
         found = λ u i z ne l. added_other d.found good.found u i z ne l;
         later = kept.later;
@@ -78,6 +78,9 @@ module _ (s : World) (h : Sound s) (w : ℕ) where
         other = λ c l ne. one_word d.effect (tables_of s) c l ne;
       }
     where
+      others_stay : (u : ℕ) → u ≢ w → worker_at (settled s w (worker_at s w) o d) u ≡ worker_at s u
+      others_stay u ne = unfold settled in unfold worker_at in get_or-set_other s.board.workers w u _ idle ne
+
       pushed_other : (c : PendingChange) → PendingFits (totals_of s) (worker_at s w).pending c → (u i : ℕ) → u ≢ w → i < (totals_of s).n → get_or (pushed s.pending (spot (totals_of s) w (worker_at s w).pending) c) (spot (totals_of s) u i) 0 ≡ get_or s.pending (spot (totals_of s) u i) 0
       pushed_other pending.Keep p u i ne l = unfold pushed in refl
       pushed_other (pending.Push x) p u i ne l = unfold pushed in get_or-set_other s.pending _ _ x.0 0 (spot_other (totals_of s) w u _ i p.0 l ne)
