@@ -1,0 +1,7 @@
+-- `key_at` is `key_at`: the value of the rank read.
+use Rattle.tables.specs.Nodes.{key_at}
+use Rattle.nodes.proofs.key_at.Goals as goal
+
+pub returns : goal.returns
+unfolding key_at
+returns c = rw (← c.rank_at.ensures) c.key_value.ensures

@@ -1,0 +1,8 @@
+-- `rank_at` is `rank_at`, by the two words read.
+use mathlib.Core.Path.{refl}
+use Rattle.tables.specs.Nodes.{rank_at}
+use Rattle.nodes.proofs.rank_at.Goals as goal
+
+pub returns : goal.returns
+unfolding rank_at
+returns c = rw (← c.word-class.ensures, ← c.word-key.ensures) refl

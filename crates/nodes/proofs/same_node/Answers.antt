@@ -1,0 +1,8 @@
+-- `same_node` is `same_node`, by computation.
+use mathlib.Core.Path.{refl}
+use Rattle.tables.specs.Names.{same_node}
+use Rattle.nodes.proofs.same_node.Goals as goal
+
+pub returns : goal.returns
+unfolding same_node
+returns c = refl

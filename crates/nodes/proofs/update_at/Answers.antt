@@ -1,0 +1,8 @@
+-- `update_at` is `update_at`, by the two words read.
+use mathlib.Core.Path.{refl}
+use Rattle.tables.specs.Nodes.{update_at}
+use Rattle.nodes.proofs.update_at.Goals as goal
+
+pub returns : goal.returns
+unfolding update_at
+returns c = rw (← c.word-mark.ensures, ← c.word-info.ensures) refl

@@ -1,0 +1,7 @@
+-- `count_at` is `count_at`, by what `word` reads.
+use Rattle.tables.specs.Records.{count_at}
+use Rattle.records.proofs.count_at.Goals as goal
+
+pub returns : goal.returns
+unfolding count_at
+returns c = c.word.ensures

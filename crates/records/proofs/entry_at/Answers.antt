@@ -1,0 +1,8 @@
+-- `entry_at` is `entry_at`, by the four words read.
+use mathlib.Core.Path.{refl}
+use Rattle.tables.specs.Records.{entry_at}
+use Rattle.records.proofs.entry_at.Goals as goal
+
+pub returns : goal.returns
+unfolding entry_at
+returns c = rw (← c.entry_word-x.ensures, ← c.entry_word-old.ensures, ← c.entry_word-info.ensures, ← c.entry_word-mark.ensures) refl

@@ -1,0 +1,8 @@
+-- `in_progress` is `in_progress`, by computation.
+use mathlib.Core.Path.{refl}
+use Rattle.tables.specs.Records.{in_progress}
+use Rattle.records.proofs.in_progress.Goals as goal
+
+pub returns : goal.returns
+unfolding in_progress
+returns c = refl

@@ -1,0 +1,8 @@
+-- `par_at` is `par_at`, by what `word` reads.
+use mathlib.Core.Path.{refl}
+use Rattle.tables.specs.Records.{par_at}
+use Rattle.records.proofs.par_at.Goals as goal
+
+pub returns : goal.returns
+unfolding par_at
+returns c = rw (← c.word.ensures) refl

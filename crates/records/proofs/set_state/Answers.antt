@@ -1,0 +1,7 @@
+-- `set_state` is `set_state`, by what `put_word` writes.
+use Rattle.tables.specs.Records.{set_state}
+use Rattle.records.proofs.set_state.Goals as goal
+
+pub returns : goal.returns
+unfolding set_state
+returns c = c.put_word.ensures
