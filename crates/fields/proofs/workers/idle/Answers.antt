@@ -1,0 +1,6 @@
+-- `idle` is `idle`, with `blank` in hand.
+use mathlib.Core.Path.{refl}
+use Rattle.fields.proofs.workers.idle.Goals as goal
+
+pub returns : goal.returns
+returns c = rw (← c.blank-hand.ensures) refl
