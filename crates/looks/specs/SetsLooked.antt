@@ -72,30 +72,30 @@ module _ (s : Tables) (r : RecordNo) (i : ℕ) (v : Locals) where
 module _ (s : Tables) (v : Locals) where
   fills-sets : (c : Changeable) (o : Kind) → Sets c v (fills s.nodes o v)
   unfolding fills fill_insert fill_delete touched
-  fills-sets c kind.Insert = with-node _ _ _ _ (λ p. inr (inr refl))
-  fills-sets c kind.Delete = with-node _ _ _ _ (λ g. with-node _ _ _ _ (λ p. either _ _ _ _ _ (inr (inr refl)) tt))
+  fills-sets c kind.Insert = with-node _ v _ _ (λ p. inr (inr refl))
+  fills-sets c kind.Delete = with-node _ v _ _ (λ g. with-node _ v _ _ (λ p. either _ v _ _ _ (inr (inr refl)) tt))
   fills-sets c kind.Find = tt
 
   copy_sets : (c : Changeable) (left : Bool) → Sets c v (copy_word s.nodes v left)
   unfolding copy_word touched
-  copy_sets c left = with-node _ _ _ _ (λ x. as_parent_lem _ _ s.nodes v.made _ (inr (inr refl)))
+  copy_sets c left = with-node _ v _ _ (λ x. as_parent_lem _ v s.nodes v.made _ (inr (inr refl)))
 
   attempt-sets : (ls : Lists) (o : Kind) (k : Key) (q : Place) → Sets (place_looks s ls o k k v q) v (attempt s o k v q)
   unfolding attempt place_looks search39 landed link_step word66 grand66 sibling182 word189 leaf_word frozen97 state98 freeze103 touched
   attempt-sets ls o k place.Counter74 = inl refl
-  attempt-sets ls o k place.Search39 = with-node _ _ _ _ (λ p. with-node _ _ _ _ (λ c. either _ _ _ _ _ (inl refl) (inl refl)))
+  attempt-sets ls o k place.Search39 = with-node _ v _ _ (λ p. with-node _ v _ _ (λ c. either _ v _ _ _ (inl refl) (inl refl)))
   attempt-sets ls o k (place.Link a b) = link-sets _ v s.totals s.nodes a _
-  attempt-sets ls o k place.Word66 = with-node _ _ _ _ (λ p. either _ _ _ _ _ (either _ _ _ _ _ (validated-sets _ v s.totals s.nodes o k) (inl refl)) (inl refl))
-  attempt-sets ls o k place.Grand66 = with-node _ _ _ _ (λ g. either _ _ _ _ _ (validated-sets _ v s.totals s.nodes o k) (inl refl))
+  attempt-sets ls o k place.Word66 = with-node _ v _ _ (λ p. either _ v _ _ _ (either _ v _ _ _ (validated-sets _ v s.totals s.nodes o k) (inl refl)) (inl refl))
+  attempt-sets ls o k place.Grand66 = with-node _ v _ _ (λ g. either _ v _ _ _ (validated-sets _ v s.totals s.nodes o k) (inl refl))
   attempt-sets ls o k place.Leaf164 = inl refl
-  attempt-sets ls o k place.Sibling182 = with-node _ _ _ _ (λ p. with-node _ _ _ _ (λ c. inl refl))
+  attempt-sets ls o k place.Sibling182 = with-node _ v _ _ (λ p. with-node _ v _ _ (λ c. inl refl))
   attempt-sets ls o k place.CopyLeft = copy_sets _ true
   attempt-sets ls o k place.CopyRight = copy_sets _ false
   attempt-sets ls o k place.Word189 = inl refl
   attempt-sets ls o k place.Leaf190 = inl refl
-  attempt-sets ls o k place.Frozen97 = either _ _ _ _ _ (inl refl) (either _ _ _ _ _ (inl refl) (either _ _ _ _ _ (fills-sets _ o) tt))
-  attempt-sets ls o k place.State98 = either _ _ _ _ _ (inl refl) (inl refl)
-  attempt-sets ls o k place.Freeze103 = either _ _ _ _ _ (either _ _ _ _ _ (inr (inl refl)) (inl refl)) tt
+  attempt-sets ls o k place.Frozen97 = either _ v _ _ _ (inl refl) (either _ v _ _ _ (inl refl) (either _ v _ _ _ (fills-sets _ o) tt))
+  attempt-sets ls o k place.State98 = either _ v _ _ _ (inl refl) (inl refl)
+  attempt-sets ls o k place.Freeze103 = either _ v _ _ _ (either _ v _ _ _ (inr (inl refl)) (inl refl)) tt
   attempt-sets ls o k (place.Help b c) = help_sets s v.info v.i v b c
   attempt-sets ls o k place.Counter130 = tt
   attempt-sets ls o k place.Bump131 = tt
@@ -111,11 +111,11 @@ module _ (s : Tables) (v : Locals) where
       (λ _. tt)
       (λ b c. help_sets s v.info v.i v b c)
       (inl refl)
-      (either _ _ _ _ _ (inr (inl refl)) (inl refl))
-      (with-node _ _ _ _ (λ x. inl refl))
-      (either _ _ _ _ _ (inl refl) (inl refl))
-      (with-node _ _ _ _ (λ x. either _ _ _ _ _ (reads-sets _ _ s.totals s.nodes _ _ _ _ x false) (either _ _ _ _ _ (reads-sets _ _ s.totals s.nodes _ _ _ _ x true) (either _ _ _ _ _ (reads-sets _ _ s.totals s.nodes _ _ _ _ x false) tt))))
-      (with-node _ _ _ _ (λ x. reads-sets _ _ s.totals s.nodes _ _ _ _ x true))
+      (either _ v _ _ _ (inr (inl refl)) (inl refl))
+      (with-node _ v _ _ (λ x. inl refl))
+      (either _ v _ _ _ (inl refl) (inl refl))
+      (with-node _ v _ _ (λ x. either _ v _ _ _ (reads-sets _ v s.totals s.nodes _ _ _ _ x false) (either _ v _ _ _ (reads-sets _ v s.totals s.nodes _ _ _ _ x true) (either _ v _ _ _ (reads-sets _ v s.totals s.nodes _ _ _ _ x false) tt))))
+      (with-node _ v _ _ (λ x. reads-sets _ v s.totals s.nodes _ _ _ _ x true))
 
 pub sets_looked : (s : Tables) (ls : Lists) (o : Operation) (v : Locals) → Sets (looked_at s ls o v) v (decide s ls o v)
 unfolding decide looked_at
