@@ -18,7 +18,7 @@ use Rattle.tables.specs.World.{World, idle}
 use Rattle.tables.specs.Fresh.{refused}
 use Rattle.steps.specs.Hand.{at_node, holding, with_i, with_sibling, with_taken}
 use Rattle.steps.specs.Turn.{turn_of}
-use Rattle.steps.specs.Kept.{turn_keeps}
+use Rattle.steps.proofs.Kept.{turn_keeps}
 use Rattle.steps.specs.Opened.{steps_opened}
 use Rattle.steps.specs.Play.{fresh, insert, took, done, same_list}
 use Rattle.steps.specs.Hands.{with_node, with_counter, with_worker, busy, doing, hand, phase_word}

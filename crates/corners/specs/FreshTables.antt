@@ -9,7 +9,7 @@ use Rattle.shapes.specs.declared.Outcome.TheVariants.{Going, Refused}
 use Rattle.tables.specs.Names.{key_of}
 use Rattle.tables.specs.World.{World, blank, idle, worker_at}
 use Rattle.tables.specs.Fresh.{refused, fresh_of}
-use Rattle.steps.specs.Kept.{fresh_keeps}
+use Rattle.steps.proofs.Kept.{fresh_keeps}
 use Rattle.steps.specs.Opened.{steps_opened}
 use Rattle.steps.specs.Play.{lent}
 use Rattle.steps.specs.Hands.{with_worker, busy, cut}

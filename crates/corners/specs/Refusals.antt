@@ -12,7 +12,7 @@ use Rattle.tables.specs.Fresh.{refused}
 use Rattle.steps.specs.Turn.{turn_of, insert_of, delete_of, find_of, scan_of, run_of}
 use Rattle.steps.specs.Opened.{steps_opened}
 use Rattle.steps.specs.Play.{fresh, insert, shown, show}
-use Rattle.steps.specs.Kept.{turn_keeps, start_keeps}
+use Rattle.steps.proofs.Kept.{turn_keeps, start_keeps}
 use Rattle.steps.specs.Hands.{with_counter, with_worker, busy}
 
 abbrev pub five : Key
