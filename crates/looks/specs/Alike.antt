@@ -12,6 +12,8 @@ use Rattle.shapes.specs.declared.Place.{Place}
 use Rattle.shapes.specs.declared.Place.TheVariants as place
 use Rattle.shapes.specs.declared.Operation.{Operation}
 use Rattle.shapes.specs.declared.Operation.TheVariants.{Insert, Delete, Find, Scan}
+use Rattle.shapes.specs.declared.Effect.{Effect}
+use Rattle.shapes.specs.declared.Effect.TheVariants as effect
 use Rattle.tables.specs.Nodes.{child_at}
 use Rattle.tables.specs.NodeWrites.{fixed_at}
 use Rattle.tables.specs.RecordWrites.{filling_at}
@@ -41,3 +43,15 @@ OwnCopy s t v q = (left : Bool) → q ≡ place.Link (pick left Left187 Right188
 -- at lines 117 and 119 i is one of a record's four entries: beyond them stands the next record, with its state
 abbrev pub InRow : Locals → Place → Type 0
 InRow v q = (b : HelpStep) (c : Back) → q ≡ place.Help b c → in_list b ≡ true → (1 ≤ v.i) × (v.i ≤ 4)
+
+-- an effect that writes a changeable word and nothing else: it takes no nodes and fills no record
+abbrev pub Writes : Effect → Type 0
+Writes effect.Nothing = Unit {0}
+Writes effect.Bump = Unit {0}
+Writes (effect.TakeThree k l q) = ⊥
+Writes (effect.TakeCopy x p q) = ⊥
+Writes (effect.CopyChild x left c) = Unit {0}
+Writes (effect.Fill r f) = ⊥
+Writes (effect.Freeze x u) = Unit {0}
+Writes (effect.SetState r v) = Unit {0}
+Writes (effect.Link x left c) = Unit {0}

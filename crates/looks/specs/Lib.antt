@@ -1,12 +1,4 @@
 pub mod Looked
 pub mod Alike
 pub mod Common
-pub mod ReadsAttempt
-pub mod ReadsLink
-pub mod ReadsHelp
-pub mod ReadsOne
-pub mod SameLook
 pub mod Setting
-pub mod SetsLooked
-pub mod Undisturbed
-pub mod Examples

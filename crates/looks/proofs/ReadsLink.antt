@@ -24,7 +24,7 @@ use Rattle.steps.specs.Attempt.{held, link_next, link_step}
 use Rattle.looks.specs.Looked.{link_looks}
 use Rattle.looks.specs.Alike.{Alike, OwnCopy}
 use Rattle.looks.specs.Common.{SameAt, word_there, child_there, by_node, by_parent}
-use Rattle.looks.specs.ReadsAttempt.{same_goes, same_copy, same_sibling, same_frozen}
+use Rattle.looks.proofs.ReadsAttempt.{same_goes, same_copy, same_sibling, same_frozen}
 
 module _ (s t : Tables) (a : Alike s t) (v : Locals) where
   pub same_side : (k : Key) (c : Link) → link_left t.nodes k v c ≡ link_left s.nodes k v c

@@ -14,20 +14,8 @@ use Rattle.steps.specs.Scan.{Lists}
 use Rattle.steps.specs.Decide.{decide}
 use Rattle.kept.specs.Touched.{touched, UsedWord, one_word}
 use Rattle.looks.specs.Looked.{looked_at}
-use Rattle.looks.specs.Alike.{Alike, place_of, OwnCopy, InRow}
-use Rattle.looks.specs.ReadsOne.{reads-one}
-
--- an effect that writes a changeable word and nothing else: it takes no nodes and fills no record
-abbrev pub Writes : Effect → Type 0
-Writes effect.Nothing = Unit {0}
-Writes effect.Bump = Unit {0}
-Writes (effect.TakeThree k l q) = ⊥
-Writes (effect.TakeCopy x p q) = ⊥
-Writes (effect.CopyChild x left c) = Unit {0}
-Writes (effect.Fill r f) = ⊥
-Writes (effect.Freeze x u) = Unit {0}
-Writes (effect.SetState r v) = Unit {0}
-Writes (effect.Link x left c) = Unit {0}
+use Rattle.looks.specs.Alike.{Alike, place_of, OwnCopy, InRow, Writes}
+use Rattle.looks.proofs.ReadsOne.{reads-one}
 
 changed : (s : Tables) (ns rs : List ℕ) → ((x : NodeNo) → fixed_at ns x ≡ fixed_at s.nodes x) → ((r : RecordNo) → filling_at rs r ≡ filling_at s.records r) → Alike s (tables s.totals ns rs)
 changed s ns rs f g = record { n = refl; m = refl; p = refl; nodes = refl; records = refl; fixed = f; filling = g }

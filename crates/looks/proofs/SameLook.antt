@@ -23,8 +23,8 @@ use Rattle.steps.specs.Scan.{Lists}
 use Rattle.looks.specs.Looked.{link_looks, help_looks, scans_left, place_looks, looked_at}
 use Rattle.looks.specs.Alike.{Alike, place_of, InRow}
 use Rattle.looks.specs.Common.{same_key, same_par, same_new, same_entry}
-use Rattle.looks.specs.ReadsAttempt.{same_goes, same_sibling}
-use Rattle.looks.specs.ReadsLink.{same_side}
+use Rattle.looks.proofs.ReadsAttempt.{same_goes, same_sibling}
+use Rattle.looks.proofs.ReadsLink.{same_side}
 
 module _ (s t : Tables) (a : Alike s t) (v : Locals) where
   link_look : (k : Key) (c : Link) (b : LinkStep) → link_looks t k v c b ≡ link_looks s k v c b

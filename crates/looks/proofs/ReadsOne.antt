@@ -26,9 +26,9 @@ use Rattle.kept.specs.Touched.{value_at}
 use Rattle.looks.specs.Looked.{place_looks, looked_at}
 use Rattle.looks.specs.Alike.{Alike, OwnCopy, InRow, place_of}
 use Rattle.looks.specs.Common.{SameAt, same_counter}
-use Rattle.looks.specs.ReadsAttempt.{search_one, word66-one, grand66-one, sibling_one, copy_one, sibling_word-one, leaf_one, frozen97-one, state98-one, freeze103-one}
-use Rattle.looks.specs.ReadsLink.{link-one}
-use Rattle.looks.specs.ReadsHelp.{help_one, bump_one, word139-one, state140-one, child141-one, left144-one}
+use Rattle.looks.proofs.ReadsAttempt.{search_one, word66-one, grand66-one, sibling_one, copy_one, sibling_word-one, leaf_one, frozen97-one, state98-one, freeze103-one}
+use Rattle.looks.proofs.ReadsLink.{link-one}
+use Rattle.looks.proofs.ReadsHelp.{help_one, bump_one, word139-one, state140-one, child141-one, left144-one}
 
 module _ (s t : Tables) (a : Alike s t) (v : Locals) where
   attempt-one : (ls : Lists) (o : Kind) (k : Key) (q : Place) → OwnCopy s t v q → InRow v q → SameAt s t (place_looks s ls o k k v q) → attempt t o k v q ≡ attempt s o k v q
