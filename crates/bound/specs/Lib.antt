@@ -1,7 +1,5 @@
 pub mod Histories
 pub mod Statement
-pub mod Examples
-pub mod Cheats
 pub mod FreshHolds
 pub mod FreshVersions
 pub mod Knows
@@ -9,6 +7,3 @@ pub mod Reached
 pub mod Starts
 pub mod Own
 pub mod Turns
-pub mod Scans
-pub mod Induction
-pub mod Applied

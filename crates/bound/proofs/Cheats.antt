@@ -13,7 +13,7 @@ use Rattle.steps.specs.Opened.{steps_opened}
 use Rattle.steps.specs.Play.{fresh}
 use Rattle.steps.specs.Kept.{is_refused}
 use Rattle.bound.specs.Histories.{Call, find, scan, asked, after, counted, turns_of}
-use Rattle.bound.specs.Examples.{key, turns, inserts5, scans, last_outcome}
+use Rattle.bound.proofs.Examples.{key, turns, inserts5, scans, last_outcome}
 
 -- what the first, second .. turn of P7's scan comes to
 unfoldable pub outcomes : ℕ → List Outcome

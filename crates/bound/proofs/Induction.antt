@@ -16,7 +16,7 @@ use Rattle.bound.specs.Statement.{Bound}
 use Rattle.bound.specs.Reached.{Reached, fresh_reached}
 use Rattle.bound.specs.Starts.{own_count, insert-begins, delete-begins, find-begins, scan_begins, start_reached}
 use Rattle.bound.specs.Turns.{turn_reached}
-use Rattle.bound.specs.Scans.{accepted, going, answers}
+use Rattle.bound.proofs.Scans.{accepted, going, answers}
 
 fresh-made : (n m p : ℕ) (lent : World) → (fresh_of n m p lent).outcome ≡ Going → Reached p (fresh_of n m p lent).world (λ w. 0)
 unfolding fresh_of

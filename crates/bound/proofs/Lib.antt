@@ -1,0 +1,5 @@
+pub mod Examples
+pub mod Cheats
+pub mod Scans
+pub mod Induction
+pub mod Applied
