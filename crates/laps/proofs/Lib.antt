@@ -1,2 +1,4 @@
+pub mod Floor
+pub mod Inverse
 pub mod Quotients
 pub mod Keys

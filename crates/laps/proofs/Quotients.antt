@@ -11,7 +11,7 @@ use mir.Syntax.{Width}
 use mir.Val.{SFits, to_z, of_z}
 use mir.ValLaws.{sfits_le, to_z-of_z}
 use Rattle.laps.specs.Laps.{floor_div, floor_rest}
-use Rattle.laps.specs.Floor.{floor_lowered, rest_raised, floor_as_is, rest_as_is}
+use Rattle.laps.proofs.Floor.{floor_lowered, rest_raised, floor_as_is, rest_as_is}
 
 pub mag_minus : (q n : ℕ) → q ≤ suc n → mag (neg_ℤ (pos q)) ≤ n
 mag_minus zero n h = omega arith

@@ -1,0 +1,5 @@
+-- The measure is how many groups are left.
+use Rattle.unpack.proofs.+read_groups.Given as goal
+
+abbrev pub decreases-read_groups : goal.decreases-read_groups
+decreases-read_groups l = l.left
