@@ -22,7 +22,9 @@ def exported(crate):
     """Each function that a library hands out, as (the crate that has it, its name)."""
     text = (CRATES / crate / "src" / "lib.rt").read_text()
     modules = set(re.findall(r"^mod (\w+);", text, re.M))
-    handed_on = re.findall(r"^pub use (\w+)::([a-z]\w*);", text, re.M)
+    handed_on = []
+    for first, names in re.findall(r"^pub use (\w+)::(\{[^}]*\}|\w+);", text, re.M):
+        handed_on += [(first, name) for name in re.findall(r"\b[a-z]\w*", names)]
     own = {(crate, name) for name in re.findall(r"^pub fn (\w+)", text, re.M)}
     return own | {(crate if first in modules else first, name) for first, name in handed_on}
 
@@ -38,9 +40,9 @@ def listed():
 
 
 def seen(text):
-    """The places of the lists that a line names: `x .1 .1 .0` is the third that a call is given, all behind it if no `.0` follows."""
+    """The places of the lists that a line names: `x.1.1.0` is the third that a call is given, all behind it if no `.0` follows."""
     places = set()
-    for steps, one in re.findall(r"\bx((?: \.1)*)( \.0)?", text.partition(" x. ")[2]):
+    for steps, one in re.findall(r"\bx((?:\.1)*)(\.0)?", text.partition(" x. ")[2]):
         first = steps.count(".1")
         places |= {first} if one else set(range(first, first + TABLES))
     return places
