@@ -1,0 +1,8 @@
+-- `phase_ok` is `phase_ok`, by computation.
+use mathlib.Core.Path.{refl}
+use Rattle.sound.specs.Sound.{phase_ok}
+use Rattle.rows.proofs.numbers.phase_ok.Goals as goal
+
+pub returns : goal.returns
+unfolding phase_ok
+returns c = refl
