@@ -1,6 +1,6 @@
--- A schedule written, its opening and then each command behind the one before it: what is left, and that it reads back.
+-- A schedule written, its opening and then each command behind the one before it: what is left. That it reads back: proofs/Written.antt.
 use Rattle.std.specs.Prelude.{◌≡◌, refl, Bool, true, false, ◌&&◌, leb, take, drop, set}
-use Rattle.std.proofs.Common.{subst, ◌∙◌, add_assoc, le-leb}
+use Rattle.std.proofs.Common.{◌∙◌, add_assoc, le-leb}
 use mathlib.Core.List.{List, [], ◌∷◌, ◌++◌}
 use Prim.Native.Nat.{ℕ, suc, ◌+◌, ◌≤◌, ◌<◌}
 use native.Mathlib.Omega.{arith}
@@ -9,13 +9,10 @@ use Rattle.std.proofs.lemmas.List.Edits.{sets, sets-eq}
 use Rattle.std.proofs.Math.Seq.{length-sets, take-append_seam}
 use Rattle.std.proofs.lemmas.Bool.{lt-leb}
 use Rattle.laws.specs.Choice.{pick, pick_true, pick_false, fork}
-use Rattle.laws.specs.Parts.{Below}
 use Rattle.tables.specs.Fresh.{sizes_ok}
 use Rattle.schedule.specs.Numbers.{most_bytes}
-use Rattle.schedule.specs.Format.{command_bytes, opening_bytes, Schedule, all_bytes, schedule_bytes, EachProper, Is}
-use Rattle.schedule.specs.Reading.{reads, schedule_at}
+use Rattle.schedule.specs.Format.{command_bytes, opening_bytes, Schedule, all_bytes, schedule_bytes, EachProper}
 use Rattle.schedule.specs.Writing.{Left, left, entered, write_opening, write_command, on_answer, on_end, write_commands, write_schedule}
-use Rattle.schedule.specs.Whole.{schedule_reads, read_is_schedule}
 use Rattle.schedule.specs.declared.Command.{Command}
 use Rattle.schedule.specs.declared.Refusal.{Refusal}
 use Rattle.schedule.specs.declared.Refusal.TheVariants.{File, Size}
@@ -86,13 +83,3 @@ module _ (x : Schedule) (buffer : List ℕ) (sizes : sizes_ok x.n x.m x.p ≡ tr
       let begin : 0 + length head ≡ length head = omega arith in
       rw (sizes, enters head buffer 0 (omega arith) (omega arith), both, ← sets-append head tail buffer 0, begin)
       (commands_written x.commands (sets buffer 0 head) (length head) each (omega arith) (omega arith))
-
-  -- a schedule that is written reads back as itself
-  pub written_reads : ((write_schedule x buffer).answer ≡ End (length (schedule_bytes x))) × (schedule_at (take (length (schedule_bytes x)) (write_schedule x buffer).buffer) ≡ reads x)
-  written_reads = rw schedule_written (refl, rw (front (schedule_bytes x) buffer room) (schedule_reads (schedule_bytes x) x (record { bytes = refl; sizes = sizes; each = each; few = few })))
-
--- a schedule that reads well is written again as the same bytes
-pub read_is_written : (s : List ℕ) → Below 256 s → (x : Schedule) → schedule_at s ≡ reads x → (buffer : List ℕ) → length s ≤ length buffer → write_schedule x buffer ≡ left (End (length s)) (sets buffer 0 s)
-read_is_written s b x e buffer room =
-    let is : Is s x = read_is_schedule s b x e in
-    rw is.bytes (schedule_written x buffer is.sizes is.each (subst (λ (l : List ℕ). length l ≤ most_bytes) is.bytes is.few) (subst (λ (l : List ℕ). length l ≤ length buffer) is.bytes room))

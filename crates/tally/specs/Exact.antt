@@ -8,7 +8,7 @@ use Rattle.schedule.specs.Numbers.{most_bytes, turns}
 use Rattle.schedule.specs.Format.{numbers_of, Proper}
 use Rattle.schedule.specs.Reading.{opening_at, command_at}
 use Rattle.schedule.specs.Openings.{opening_opens}
-use Rattle.schedule.specs.Standing.{command_stands}
+use Rattle.schedule.proofs.Standing.{command_stands}
 use Rattle.shapes.specs.Numbers.{most_p}
 use Rattle.shapes.specs.declared.Outcome.{Outcome}
 use Rattle.shapes.specs.declared.Outcome.TheVariants as outcome
