@@ -15,14 +15,12 @@ unfolding room
 room_fits t k e = ((says_and (says_le (t.nodes + k) t.n) (says_le (t.records + 1) t.m)).out e).0
 
 pub overflow_add-internal : goal.overflow_add-internal
-overflow_add-internal c =
-    -- the room asked for is for three nodes
-    let asked : c.room.result ≡ room c.args.totals 3 = c.room.ensures in
-    omega (arith, room_fits _ _ (sym asked ∙ c.if-room.true))
+overflow_add-internal c = omega (arith, room_fits _ _ (sym c.room.ensures ∙ c.if-room.true))
 
 pub returns-then-room : goal.returns-then-room
 unfolding take_three pick
 returns-then-room c =
+    -- the room asked for is for three nodes
     let asked : c.room.result ≡ room c.args.totals 3 = c.room.ensures in
     rw (← asked, c.if-room.true) (rw c.with_taken-taken.ensures at c.decide_to.ensures)
 
