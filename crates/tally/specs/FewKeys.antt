@@ -41,7 +41,6 @@ use Rattle.steps.specs.Help.{back_to, help_next}
 use Rattle.steps.specs.Scan.{Lists, Range, bump131, word139, state140, leaves, comes_to, reads, child141, left144}
 use Rattle.steps.specs.Decide.{attempt, scan, decide}
 use Rattle.steps.specs.Ways.{through_each, scan-places}
-use Rattle.schedule.specs.declared.Command.TheVariants.{Insert, Delete, Find, Scan}
 
 -- ---- what counts no more keys than there can be nodes
 

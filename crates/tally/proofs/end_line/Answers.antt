@@ -1,0 +1,8 @@
+-- `end_line` is `end_line`.
+use mathlib.Core.Path.{refl}
+use Rattle.tally.specs.Whole.{end_line}
+use Rattle.tally.proofs.end_line.Goals as goal
+
+pub returns : goal.returns
+unfolding end_line
+returns c = refl
