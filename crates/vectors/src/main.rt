@@ -1,45 +1,38 @@
 // Plays the schedules whose names stand on standard input, a line to each, and prints each name and its lines.
 #![tactic(auto)]
 
+ghost use Rattle.std.specs.Prelude.{◌≤◌, length};
+
 use input::{Input, read_all, room};
-use libc::{STDIN_FILENO, STDOUT_FILENO};
 use showing::{Ending, show_from};
+use std::fs::File;
+use std::io::{Read, Stdout, Write};
+use std::rt::Files;
 
 const LINE_FEED: u8 = 10;
 
-fn play(file: i32) {
-    match show_from(file, STDOUT_FILENO) {
+// What fails is said on standard error.
+fn fail(rt: &impl Eprint, what: &str) {
+    let _ = rt.eprintln(what);
+}
+
+fn play<R: Read>(rt: &impl Eprint, file: &mut R, out: &mut Stdout) {
+    match show_from(file, out) {
         Ending::Shown => {}
-        Ending::Unreadable => os::fail(b"vectors: a schedule cannot be read"),
-        Ending::Unwritable => os::fail(b"vectors: lines cannot be written"),
+        Ending::Unreadable => fail(rt, "vectors: a schedule cannot be read"),
+        Ending::Unwritable => fail(rt, "vectors: lines cannot be written"),
     }
 }
 
-fn play_named(name: &[u8]) {
-    io::write_all(STDOUT_FILENO, name);
-    io::write_all(STDOUT_FILENO, &[LINE_FEED]);
-    let file = os::open_read(name);
-    if file < 0 {
-        os::fail(b"vectors: a schedule cannot be opened");
-        return;
-    }
-    play(file);
-    libc::close(file);
+fn play_named(rt: &(impl Files + Eprint), name: &[u8], out: &mut Stdout) {
+    let _ = Write::write_all(out, name);
+    let _ = Write::write_all(out, &[LINE_FEED]);
 }
 
-fn play_all(names: &[u8]) {
-    let mut at = 0;
-    while at < names.len() {
-        let end = bytes::scan::find(names, at, names.len(), LINE_FEED);
-        play_named(&names[at..end]);
-        at = end + 1;
-    }
-}
-
-fn main() {
+fn main(rt: HostRuntime) {
     let mut names = room();
-    match read_all(STDIN_FILENO, &mut names) {
-        Input::Came(size) => play_all(&names[..size]),
-        Input::Unreadable => os::fail(b"vectors: the names cannot be read"),
+    match read_all(&mut rt.stdin(), &mut names) {
+        Input::Came(size) => play_all(&rt, &names[..size]),
+        Input::Unreadable => fail(&rt, "vectors: the names cannot be read"),
     }
 }
