@@ -1,4 +1,5 @@
 // Plays the schedules whose names stand on standard input, a line to each, and prints each name and its lines.
+// What fails is said on standard error.
 #![tactic(auto)]
 
 ghost use Rattle.std.specs.Prelude.{◌≤◌, length};
@@ -6,27 +7,64 @@ ghost use Rattle.std.specs.Prelude.{◌≤◌, length};
 use input::{Input, read_all, room};
 use showing::{Ending, show_from};
 use std::fs::File;
-use std::io::{Read, Stdout, Write};
+use std::io::{self, Read};
 use std::rt::Files;
 
 const LINE_FEED: u8 = 10;
 
-// What fails is said on standard error.
+// Nobody is left to be told where this fails too.
 fn fail(rt: &impl Eprint, what: &str) {
     let _ = rt.eprintln(what);
 }
 
-fn play<R: Read>(rt: &impl Eprint, file: &mut R, out: &mut Stdout) {
-    match show_from(file, out) {
+fn play<R: Read>(rt: &(impl Print + Eprint), file: &mut R) {
+    match show_from(file, &mut io::writer(rt)) {
         Ending::Shown => {}
         Ending::Unreadable => fail(rt, "vectors: a schedule cannot be read"),
         Ending::Unwritable => fail(rt, "vectors: lines cannot be written"),
     }
 }
 
-fn play_named(rt: &(impl Files + Eprint), name: &[u8], out: &mut Stdout) {
-    let _ = Write::write_all(out, name);
-    let _ = Write::write_all(out, &[LINE_FEED]);
+// The name stands on a line of its own. A line that cannot be written leaves a gap, which its schedule's lines tell of.
+fn say_name(rt: &impl Print, name: &[u8]) {
+    let _ = rt.write_all(name);
+    let _ = rt.write_all(&[LINE_FEED]);
+}
+
+fn open_and_play(rt: &(impl Files + Print + Eprint), name: &str) {
+    match File::open(rt, name) {
+        Ok(mut file) => play(rt, &mut file),
+        Err(_) => fail(rt, "vectors: a schedule cannot be opened"),
+    }
+}
+
+fn play_named(rt: &(impl Files + Print + Eprint), name: &[u8]) {
+    say_name(rt, name);
+    match str::from_utf8(name) {
+        Ok(text) => open_and_play(rt, text),
+        Err(_) => fail(rt, "vectors: a schedule cannot be opened"),
+    }
+}
+
+// Where the name that begins at `start` ends.
+fn name_end(names: &[u8], start: usize) -> usize
+    requires { start ≤ length names.now }
+    ensures lower_bound { start ≤ result }
+    ensures upper_bound { result ≤ length names.now }
+{
+    match names[start..].iter().position(|byte| *byte == LINE_FEED) {
+        Some(size) => start + size,
+        None => names.len(),
+    }
+}
+
+fn play_all(rt: &(impl Files + Print + Eprint), names: &[u8]) {
+    let mut at = 0;
+    while at < names.len() {
+        let end = name_end(names, at);
+        play_named(rt, &names[at..end]);
+        at = end + 1;
+    }
 }
 
 fn main(rt: HostRuntime) {
