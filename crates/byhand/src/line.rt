@@ -85,10 +85,8 @@ fn number(line: &[u8], which: u32) -> u32 {
         digits: 0,
         below: false,
     };
-    let mut i = 0;
-    while i < line.len() {
-        reading = read_byte(reading, which, line[i]);
-        i += 1;
+    for byte in line {
+        reading = read_byte(reading, which, *byte);
     }
     as_word(reading.digits, reading.below)
 }

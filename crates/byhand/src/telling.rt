@@ -61,13 +61,11 @@ pub fn say_outcome(rt: &impl Print, outcome: Outcome) {
 
 // The first n keys of a list.
 pub fn say_list(rt: &impl Print, keys: &[i32], n: usize) {
-    let mut i = 0;
-    while i < keys.len() {
+    for (i, key) in keys.iter().enumerate() {
         if n <= i {
             return;
         }
-        say_signed(rt, keys[i]);
-        i += 1;
+        say_signed(rt, *key);
     }
 }
 

@@ -6,7 +6,7 @@ use native.Mathlib.Nat.{zero-add}
 use native.Mathlib.Omega.{arith}
 use lib.ListN.{length, take, drop, length-append}
 use lib.Seq.{take-append_seam}
-use Rattle.io.specs.Counts.{IsPrefixLen}
+use Rattle.leaves.specs.Table.{IsPrefixLen}
 use Rattle.groups.specs.Format.{left, put}
 use Rattle.groups.specs.Writing.{put-between}
 use Rattle.groups.specs.declared.Written.{Written}

@@ -86,12 +86,10 @@ fn show_end(rt: &impl Print, rows: usize, over: usize) {
 
 fn show_table(rt: &impl Print, table: &[u8]) {
     let rows = table.len() / ROW;
-    let mut shown = 0;
-    while shown < rows {
+    for shown in 0..rows {
         let start = shown * ROW;
         let end = start + ROW;
         show_line(rt, &table[start..end]);
-        shown += 1;
     }
     show_end(rt, rows, table.len() % ROW);
 }

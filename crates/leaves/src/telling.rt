@@ -28,10 +28,8 @@ fn say_byte(rt: &impl Print, byte: u8) {
 }
 
 pub fn say_bytes(rt: &impl Print, bytes: &[u8]) {
-    let mut i = 0;
-    while i < bytes.len() {
-        say_byte(rt, bytes[i]);
-        i += 1;
+    for byte in bytes {
+        say_byte(rt, *byte);
     }
 }
 
