@@ -113,12 +113,8 @@ pub fn line_end(script: &[u8], start: usize) -> usize
     ensures lower_bound { start ≤ result }
     ensures upper_bound { result ≤ length script.now }
 {
-    let mut end = start;
-    while end < script.len() {
-        if script[end] == b'\n' {
-            return end;
-        }
-        end += 1;
+    match script[start..].iter().position(|byte| *byte == b'\n') {
+        Some(size) => start + size,
+        None => script.len(),
     }
-    end
 }
