@@ -1,6 +1,6 @@
 // The program: plays the schedule on standard input, and prints its lines.
 //
-// What fails is said on standard error, no `end` is printed, and the exit status is not 0.
+// What fails is said on standard error, no `end` is printed, and the exit status is 1.
 #![tactic(auto)]
 
 use showing::{Ending, show_from};

@@ -25,7 +25,7 @@ fn play<R: Read>(rt: &(impl Print + Eprint), file: &mut R) {
     }
 }
 
-// The name stands on a line of its own. A line that cannot be written leaves a gap, which its schedule's lines tell of.
+// The name stands on a line of its own. What cannot be written of it is passed over.
 fn say_name(rt: &impl Print, name: &[u8]) {
     let _ = rt.write_all(name);
     let _ = rt.write_all(&[LINE_FEED]);
