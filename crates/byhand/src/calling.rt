@@ -10,17 +10,17 @@ use shapes::{Board, Phase, Reply, Run};
 use tables::MOST_WORKERS;
 
 // What a call comes to is printed, and its board handed on.
-fn told(reply: Reply) -> Board {
+fn told(rt: &impl Print, reply: Reply) -> Board {
     let outcome = reply.outcome;
-    say_outcome(outcome);
+    say_outcome(rt, outcome);
     reply.board
 }
 
-fn run_told(run: Run) -> Board {
+fn run_told(rt: &impl Print, run: Run) -> Board {
     let outcome = run.outcome;
-    say_outcome(outcome);
-    say(b" after");
-    say_number(run.turns);
+    say_outcome(rt, outcome);
+    say(rt, b" after");
+    say_number(rt, run.turns);
     run.board
 }
 
@@ -44,18 +44,19 @@ fn start(
     }
 }
 
-fn say_version(listing: Listing, keys: &[i32]) {
+fn say_version(rt: &impl Print, listing: Listing, keys: &[i32]) {
     match listing {
         Listing::Keys(n) => {
-            say_keys(n);
-            say_list(keys, n);
+            say_keys(rt, n);
+            say_list(rt, keys, n);
         }
-        Listing::Refused(why) => say_refusal(why),
+        Listing::Refused(why) => say_refusal(rt, why),
     }
 }
 
 // The calls that only read the tables.
 fn ask(
+    rt: &impl Print,
     words: Words,
     board: Board,
     nodes: &[u32],
@@ -65,16 +66,17 @@ fn ask(
     keys: &mut [i32],
 ) -> Board {
     if words.command != b'v' {
-        return told(start(words, board, nodes, records, pending, found));
+        return told(rt, start(words, board, nodes, records, pending, found));
     }
     let i = Phase(words.first);
     let listing = lister::list(board, i, nodes, records, pending, found, keys);
-    say_version(listing, keys);
+    say_version(rt, listing, keys);
     board
 }
 
 // The call that the line asks for.
 fn call(
+    rt: &impl Print,
     words: Words,
     board: Board,
     nodes: &mut [u32],
@@ -88,10 +90,16 @@ fn call(
     let c = words.third;
     let command = words.command;
     match command {
-        b'm' => told(fresh::fresh(board, a, b, c, nodes, records, pending, found)),
-        b't' => told(machine::turn(board, a, nodes, records, pending, found)),
-        b'g' => run_told(machine::run(board, a, b, nodes, records, pending, found)),
-        _ => ask(words, board, nodes, records, pending, found, keys),
+        b'm' => told(
+            rt,
+            fresh::fresh(board, a, b, c, nodes, records, pending, found),
+        ),
+        b't' => told(rt, machine::turn(board, a, nodes, records, pending, found)),
+        b'g' => run_told(
+            rt,
+            machine::run(board, a, b, nodes, records, pending, found),
+        ),
+        _ => ask(rt, words, board, nodes, records, pending, found, keys),
     }
 }
 
@@ -127,15 +135,19 @@ fn worker_shown(words: Words) -> u32 {
     }
 }
 
-fn say_left(words: Words, board: Board, before: Sums, after: Sums) {
-    say_totals(board.totals);
-    say_counts(boards::worker_of(board, worker_shown(words)));
-    say(b";");
-    say_number(after.lent);
-    say_same((before.lent == after.lent) & (before.kept == after.kept));
+fn say_left(rt: &impl Print, words: Words, board: Board, before: Sums, after: Sums) {
+    say_totals(rt, board.totals);
+    say_counts(rt, boards::worker_of(board, worker_shown(words)));
+    say(rt, b";");
+    say_number(rt, after.lent);
+    say_same(
+        rt,
+        (before.lent == after.lent) & (before.kept == after.kept),
+    );
 }
 
 pub fn call_and_tell(
+    rt: &impl Print,
     words: Words,
     board: Board,
     nodes: &mut [u32],
@@ -145,8 +157,8 @@ pub fn call_and_tell(
     keys: &mut [i32],
 ) -> Board {
     let before = sums_of(board, nodes, records, pending, found, keys);
-    let left = call(words, board, nodes, records, pending, found, keys);
+    let left = call(rt, words, board, nodes, records, pending, found, keys);
     let after = sums_of(left, nodes, records, pending, found, keys);
-    say_left(words, left, before, after);
+    say_left(rt, words, left, before, after);
     left
 }

@@ -84,19 +84,20 @@ fn is_call(command: u8) -> bool {
 }
 
 // A remark and a call are printed as they stand.
-fn say_line(line: &[u8], command: u8) {
+fn say_line(rt: &impl Print, line: &[u8], command: u8) {
     if command == b'#' {
-        say(line);
-        say(b"\n");
+        say(rt, line);
+        say(rt, b"\n");
     }
     if is_call(command) {
-        say(line);
-        say(b" =");
+        say(rt, line);
+        say(rt, b" =");
     }
 }
 
 // A line on what is lent.
 fn obey_on(
+    rt: &impl Print,
     words: Words,
     board: Board,
     nodes: &mut [u32],
@@ -106,13 +107,14 @@ fn obey_on(
     keys: &mut [i32],
 ) -> Board {
     if is_call(words.command) {
-        return call_and_tell(words, board, nodes, records, pending, found, keys);
+        return call_and_tell(rt, words, board, nodes, records, pending, found, keys);
     }
     set_lists(words, nodes, records, pending, found, keys);
     set_board(words, board)
 }
 
 pub fn obey(
+    rt: &impl Print,
     line: &[u8],
     desk: Desk,
     nodes: &mut [u32],
@@ -122,7 +124,7 @@ pub fn obey(
     keys: &mut [i32],
 ) -> Desk {
     let words = words_of(line);
-    say_line(line, words.command);
+    say_line(rt, line, words.command);
     let before = desk.board;
     let lent = lent_after(words, desk.lent);
     let a = part(lent.nodes, nodes.len());
@@ -131,6 +133,7 @@ pub fn obey(
     let d = part(lent.found, found.len());
     let e = part(lent.keys, keys.len());
     let board = obey_on(
+        rt,
         words,
         before,
         &mut nodes[..a],

@@ -11,10 +11,8 @@ pub fn stir(sum: u32, word: u32) -> u32 {
 
 fn stir_words(sum: u32, words: &[u32]) -> u32 {
     let mut all = sum;
-    let mut i = 0;
-    while i < words.len() {
-        all = stir(all, words[i]);
-        i += 1;
+    for word in words {
+        all = stir(all, *word);
     }
     all
 }
@@ -22,10 +20,8 @@ fn stir_words(sum: u32, words: &[u32]) -> u32 {
 // A signed number goes in by the code by which a schedule sends it.
 fn stir_keys(sum: u32, keys: &[i32]) -> u32 {
     let mut all = sum;
-    let mut i = 0;
-    while i < keys.len() {
-        all = stir(all, groups::code(keys[i]));
-        i += 1;
+    for key in keys {
+        all = stir(all, groups::code(*key));
     }
     all
 }

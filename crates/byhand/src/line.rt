@@ -85,10 +85,8 @@ fn number(line: &[u8], which: u32) -> u32 {
         digits: 0,
         below: false,
     };
-    let mut i = 0;
-    while i < line.len() {
-        reading = read_byte(reading, which, line[i]);
-        i += 1;
+    for byte in line {
+        reading = read_byte(reading, which, *byte);
     }
     as_word(reading.digits, reading.below)
 }
@@ -115,12 +113,8 @@ pub fn line_end(script: &[u8], start: usize) -> usize
     ensures lower_bound { start ≤ result }
     ensures upper_bound { result ≤ length script.now }
 {
-    let mut end = start;
-    while end < script.len() {
-        if script[end] == b'\n' {
-            return end;
-        }
-        end += 1;
+    match script[start..].iter().position(|byte| *byte == b'\n') {
+        Some(size) => start + size,
+        None => script.len(),
     }
-    end
 }

@@ -3,19 +3,11 @@ use crate::line::{Words, signed};
 use tables::{NODE_WIDTH, RECORD_WIDTH};
 
 fn wash_words(list: &mut [u32], v: u32) {
-    let mut i = 0;
-    while i < list.len() {
-        list[i] = v;
-        i += 1;
-    }
+    list.fill(v);
 }
 
 fn wash_keys(list: &mut [i32], v: i32) {
-    let mut i = 0;
-    while i < list.len() {
-        list[i] = v;
-        i += 1;
-    }
+    list.fill(v);
 }
 
 // Where in its list the line sets a word.

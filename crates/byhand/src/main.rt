@@ -29,7 +29,11 @@ mod desk; // one line obeyed
 
 use crate::desk::{bare_desk, obey};
 use crate::line::{command, line_end};
-use libc::STDIN_FILENO;
+use crate::telling::say;
+use input::{Input, read_all};
+
+// The longest script; what stands behind is not read.
+const MOST: usize = 65_536;
 
 // What can be lent: as much as one node and one record more than the largest sizes need, with one worker.
 const NODES: usize = 10_250;
@@ -39,7 +43,7 @@ const RECORDS: usize = 11_286;
 const PLACES: usize = 1_025;
 
 // Found keys and listed keys are only written, so they are not kept.
-fn play(script: &[u8]) {
+fn play(rt: &impl Print, script: &[u8]) {
     let mut nodes = [0u32; NODES];
     let mut records = [0u32; RECORDS];
     let mut pending = [0u32; PLACES];
@@ -67,6 +71,7 @@ fn play(script: &[u8]) {
             desk = kept_desk;
         } else {
             desk = obey(
+                rt,
                 line,
                 desk,
                 &mut nodes,
@@ -79,8 +84,10 @@ fn play(script: &[u8]) {
     }
 }
 
-fn main() {
-    let mut script = io::large_buffer();
-    let size = io::read_full(STDIN_FILENO, &mut script);
-    play(&script[..size]);
+fn main(rt: HostRuntime) {
+    let mut script = [0; MOST];
+    match read_all(&mut rt.stdin(), &mut script) {
+        Input::Came(size) => play(&rt, &script[..size]),
+        Input::Unreadable => say(&rt, b"bad script: cannot be read\n"),
+    }
 }

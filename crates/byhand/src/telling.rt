@@ -1,25 +1,24 @@
 // What is printed.
-use libc::STDOUT_FILENO;
 use shapes::{Answer, Outcome, Refusal, Totals, Worker};
 
-pub fn say(text: &[u8]) {
-    io::write_all(STDOUT_FILENO, text);
+// What cannot be written is passed over.
+pub fn say(rt: &impl Print, text: &[u8]) {
+    let _ = rt.write_all(text);
 }
 
-pub fn say_number(n: u32) {
-    say(b" ");
-    io::print_decimal(STDOUT_FILENO, n as u64);
+pub fn say_number(rt: &impl Print, n: u32) {
+    let _ = print!(rt; " {n}");
 }
 
 // A code is twice the number, or one less than twice its distance below zero.
-pub fn say_signed(n: i32) {
+pub fn say_signed(rt: &impl Print, n: i32) {
     let code = groups::code(n);
     if code % 2 == 0 {
-        say_number(code / 2);
+        say_number(rt, code / 2);
         return;
     }
-    say(b" -");
-    io::print_decimal(STDOUT_FILENO, code as u64 / 2 + 1);
+    let distance = code as u64 / 2 + 1;
+    let _ = print!(rt; " -{distance}");
 }
 
 fn refusal_number(why: Refusal) -> u32 {
@@ -33,65 +32,62 @@ fn refusal_number(why: Refusal) -> u32 {
     }
 }
 
-pub fn say_refusal(why: Refusal) {
-    say(b" refused");
-    say_number(refusal_number(why));
+pub fn say_refusal(rt: &impl Print, why: Refusal) {
+    say(rt, b" refused");
+    say_number(rt, refusal_number(why));
 }
 
-pub fn say_keys(n: usize) {
-    say(b" keys ");
-    io::print_decimal(STDOUT_FILENO, n as u64);
+pub fn say_keys(rt: &impl Print, n: usize) {
+    let _ = print!(rt; " keys {n}");
 }
 
-fn say_answer(answer: Answer) {
+fn say_answer(rt: &impl Print, answer: Answer) {
     match answer {
-        Answer::Yes => say(b" yes"),
-        Answer::No => say(b" no"),
-        Answer::Keys(n) => say_keys(n as usize),
-        Answer::NoRoom => say(b" no-room"),
-        Answer::NoPhase => say(b" no-phase"),
+        Answer::Yes => say(rt, b" yes"),
+        Answer::No => say(rt, b" no"),
+        Answer::Keys(n) => say_keys(rt, n as usize),
+        Answer::NoRoom => say(rt, b" no-room"),
+        Answer::NoPhase => say(rt, b" no-phase"),
     }
 }
 
-pub fn say_outcome(outcome: Outcome) {
+pub fn say_outcome(rt: &impl Print, outcome: Outcome) {
     match outcome {
-        Outcome::Going => say(b" going"),
-        Outcome::Said(answer) => say_answer(answer),
-        Outcome::Refused(why) => say_refusal(why),
+        Outcome::Going => say(rt, b" going"),
+        Outcome::Said(answer) => say_answer(rt, answer),
+        Outcome::Refused(why) => say_refusal(rt, why),
     }
 }
 
 // The first n keys of a list.
-pub fn say_list(keys: &[i32], n: usize) {
-    let mut i = 0;
-    while i < keys.len() {
+pub fn say_list(rt: &impl Print, keys: &[i32], n: usize) {
+    for (i, key) in keys.iter().enumerate() {
         if n <= i {
             return;
         }
-        say_signed(keys[i]);
-        i += 1;
+        say_signed(rt, *key);
     }
 }
 
 // ---- what a call left
 
-pub fn say_totals(t: Totals) {
-    say(b";");
-    say_number(t.nodes);
-    say_number(t.records);
-    say_number(t.counter);
+pub fn say_totals(rt: &impl Print, t: Totals) {
+    say(rt, b";");
+    say_number(rt, t.nodes);
+    say_number(rt, t.records);
+    say_number(rt, t.counter);
 }
 
-pub fn say_counts(k: Worker) {
-    say(b";");
-    say_number(k.pending);
-    say_number(k.found);
+pub fn say_counts(rt: &impl Print, k: Worker) {
+    say(rt, b";");
+    say_number(rt, k.pending);
+    say_number(rt, k.found);
 }
 
-pub fn say_same(same: bool) {
+pub fn say_same(rt: &impl Print, same: bool) {
     if same {
-        say(b"; same\n");
+        say(rt, b"; same\n");
         return;
     }
-    say(b"; changed\n");
+    say(rt, b"; changed\n");
 }

@@ -63,11 +63,8 @@ fn of_totals(t: Totals) -> u32 {
 pub fn of_board(board: Board) -> u32 {
     let workers = board.workers;
     let mut all = of_totals(board.totals);
-    let mut w = 0;
-    while w < 8 {
-        let k = workers[w];
-        all = stir_worker(all, k);
-        w += 1;
+    for worker in workers {
+        all = stir_worker(all, worker);
     }
     all
 }

@@ -1,15 +1,20 @@
 // The program: plays the schedule on standard input, and prints its lines.
 //
-// A program has no exit status to give: what fails is said on standard error, and no `end` is printed.
+// What fails is said on standard error, no `end` is printed, and the exit status is 1.
 #![tactic(auto)]
 
-use libc::{STDIN_FILENO, STDOUT_FILENO};
 use showing::{Ending, show_from};
+use std::process::ExitCode;
 
-fn main() {
-    match show_from(STDIN_FILENO, STDOUT_FILENO) {
-        Ending::Shown => {}
-        Ending::Unreadable => os::fail(b"evening: its schedule cannot be read"),
-        Ending::Unwritable => os::fail(b"evening: its lines cannot be written"),
+fn failed(rt: &impl Eprint, what: &str) -> ExitCode {
+    let _ = rt.eprintln(what);
+    ExitCode::FAILURE
+}
+
+fn main(rt: HostRuntime) -> ExitCode {
+    match show_from(&mut rt.stdin(), &mut rt.stdout()) {
+        Ending::Shown => ExitCode::SUCCESS,
+        Ending::Unreadable => failed(&rt, "evening: its schedule cannot be read"),
+        Ending::Unwritable => failed(&rt, "evening: its lines cannot be written"),
     }
 }

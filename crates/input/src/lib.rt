@@ -4,6 +4,8 @@
 ghost use Rattle.std.specs.Prelude.{◌≡◌, length};
 ghost use Rattle.input.specs.Input.{Within};
 
+use std::io::Read;
+
 // How a reading ended: with so many bytes, or not at all.
 #[derive(Clone, Copy)]
 pub enum Input {
@@ -21,20 +23,16 @@ pub fn room() -> [u8; ROOM]
 }
 
 // Reads to the end, or until the buffer is full. A read that fails is no end.
-pub fn read_all(from: i32, buffer: &mut [u8]) -> Input
+pub fn read_all<R: Read>(from: &mut R, buffer: &mut [u8]) -> Input
     ensures { Within result (length buffer.new) }
 {
     let mut done = 0;
     while done < buffer.len() {
-        let got = libc::read(from, &mut buffer[done..]);
-        if got < 0 {
-            return Input::Unreadable;
+        match from.read(&mut buffer[done..]) {
+            Ok(0) => return Input::Came(done),
+            Ok(came) => done += came,
+            Err(_) => return Input::Unreadable,
         }
-        let came = io::count(got, &buffer[done..]);
-        if came == 0 {
-            return Input::Came(done);
-        }
-        done += came;
     }
     Input::Came(done)
 }

@@ -1,12 +1,12 @@
 -- What stands at the start of a buffer once groups are written there.
 use mathlib.Core.Path.{◌≡◌, sym, ap, ◌∙◌}
 use mathlib.Core.List.{List, ◌++◌}
-use Prim.Native.Nat.{ℕ, ◌+◌, ◌≤◌}
+use Prim.Native.Nat.{ℕ, ◌≤◌}
 use native.Mathlib.Nat.{zero-add}
 use native.Mathlib.Omega.{arith}
 use lib.ListN.{length, take, drop, length-append}
 use lib.Seq.{take-append_seam}
-use Rattle.io.specs.Counts.{IsPrefixLen}
+use Rattle.leaves.specs.Table.{IsPrefixLen}
 use Rattle.groups.specs.Format.{left, put}
 use Rattle.groups.specs.Writing.{put-between}
 use Rattle.groups.specs.declared.Written.{Written}

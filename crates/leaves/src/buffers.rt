@@ -1,8 +1,7 @@
 // Numbers written into a buffer, to be shown.
 ghost use Rattle.std.specs.Prelude.{◌≡◌, ◌≤◌, length, take};
-ghost use Rattle.io.specs.Counts.{IsPrefixLen};
 ghost use Rattle.groups.specs.Format.{groups_of, code_of, left};
-ghost use Rattle.leaves.specs.Table.{write_in_front};
+ghost use Rattle.leaves.specs.Table.{IsPrefixLen, write_in_front};
 
 use groups::Written;
 

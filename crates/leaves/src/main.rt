@@ -30,7 +30,6 @@ use crate::rows::{
 };
 use crate::telling::{say, say_count};
 use input::{Input, read_all, room};
-use libc::STDIN_FILENO;
 
 const ROW: usize = 10;
 
@@ -45,71 +44,69 @@ const SECOND: usize = 6;
 const PAYLOAD_SIZE: usize = 8;
 
 // A kind that is not known, or a count that is too large, is shown as `?` and the kind's number.
-fn show_row(row: &[u8])
+fn show_row(rt: &impl Print, row: &[u8])
     requires { length row.now ≡ 10 }
 {
     let kind = row[0];
     let count = count_of(row[1]);
     if PAYLOAD_SIZE < count {
-        show_unknown(kind);
+        show_unknown(rt, kind);
         return;
     }
     let end = PAYLOAD + count;
     let first = word_at(row, PAYLOAD);
     match kind {
-        b'n' => show_number(first),
-        b's' => show_signed(signed_word(first)),
-        b'r' => show_reading(&row[PAYLOAD..end]),
-        b'g' => show_signed_reading(&row[PAYLOAD..end]),
-        b'w' => show_writing(first, count_of(row[SECOND]), count),
-        b'l' => show_lap(signed_word(first), word_at(row, SECOND)),
-        b'k' => show_key(signed_word(first)),
-        b'p' => show_pad(signed_word(first)),
-        _ => show_unknown(kind),
+        b'n' => show_number(rt, first),
+        b's' => show_signed(rt, signed_word(first)),
+        b'r' => show_reading(rt, &row[PAYLOAD..end]),
+        b'g' => show_signed_reading(rt, &row[PAYLOAD..end]),
+        b'w' => show_writing(rt, first, count_of(row[SECOND]), count),
+        b'l' => show_lap(rt, signed_word(first), word_at(row, SECOND)),
+        b'k' => show_key(rt, signed_word(first)),
+        b'p' => show_pad(rt, signed_word(first)),
+        _ => show_unknown(rt, kind),
     }
 }
 
-fn show_line(row: &[u8])
+fn show_line(rt: &impl Print, row: &[u8])
     requires { length row.now ≡ 10 }
 {
-    show_row(row);
-    say(b"\n");
+    show_row(rt, row);
+    say(rt, b"\n");
 }
 
 // How many rows there were, and how many bytes behind them that make no row.
-fn show_end(rows: usize, over: usize) {
-    say(b"end ");
-    say_count(rows);
-    say(b" over ");
-    say_count(over);
-    say(b"\n");
+fn show_end(rt: &impl Print, rows: usize, over: usize) {
+    say(rt, b"end ");
+    say_count(rt, rows);
+    say(rt, b" over ");
+    say_count(rt, over);
+    say(rt, b"\n");
 }
 
-fn show_table(table: &[u8]) {
+fn show_table(rt: &impl Print, table: &[u8]) {
     let rows = table.len() / ROW;
-    let mut shown = 0;
-    while shown < rows {
+    for shown in 0..rows {
         let start = shown * ROW;
         let end = start + ROW;
-        show_line(&table[start..end]);
-        shown += 1;
+        show_line(rt, &table[start..end]);
     }
-    show_end(rows, table.len() % ROW);
+    show_end(rt, rows, table.len() % ROW);
 }
 
 // More bytes than any table has: there may be still more.
-fn show_input(input: &[u8]) {
+fn show_input(rt: &impl Print, input: &[u8]) {
     if MOST < input.len() {
-        say(b"bad input: longer than 65536 bytes\n");
+        say(rt, b"bad input: longer than 65536 bytes\n");
         return;
     }
-    show_table(input);
+    show_table(rt, input);
 }
 
-fn main() {
+fn main(rt: HostRuntime) {
     let mut table = room();
-    match read_all(STDIN_FILENO, &mut table) {
-        Input::Came(size) => show_input(&table[..size]),
-        Input::Unreadable => say(b"bad input: cannot be read\n"),
+    match read_all(&mut rt.stdin(), &mut table) {
+        Input::Came(size) => show_input(&rt, &table[..size]),
+        Input::Unreadable => say(&rt, b"bad input: cannot be read\n"),
     }
 }

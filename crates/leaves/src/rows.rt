@@ -8,109 +8,109 @@ use crate::telling::{
 use groups::{Reading, SignedReading, Written};
 use laps::{KeyAnswer, LapAnswer, PadAnswer};
 
-pub fn show_number(n: u32) {
-    say(b"number ");
-    say_number(n);
-    say(b" = ");
+pub fn show_number(rt: &impl Print, n: u32) {
+    say(rt, b"number ");
+    say_number(rt, n);
+    say(rt, b" = ");
     let mut buffer = [UNWRITTEN; BUFFER_SIZE];
     let size = spell(n, &mut buffer);
-    say_count(size);
-    say_bytes(&buffer[..size]);
+    say_count(rt, size);
+    say_bytes(rt, &buffer[..size]);
 }
 
-pub fn show_signed(n: i32) {
-    say(b"signed ");
-    say_signed(n);
-    say(b" = ");
+pub fn show_signed(rt: &impl Print, n: i32) {
+    say(rt, b"signed ");
+    say_signed(rt, n);
+    say(rt, b" = ");
     let mut buffer = [UNWRITTEN; BUFFER_SIZE];
     let size = spell_signed(n, &mut buffer);
-    say_count(size);
-    say_bytes(&buffer[..size]);
+    say_count(rt, size);
+    say_bytes(rt, &buffer[..size]);
 }
 
-pub fn show_reading(bytes: &[u8]) {
-    say(b"read");
-    say_bytes(bytes);
-    say(b" = ");
+pub fn show_reading(rt: &impl Print, bytes: &[u8]) {
+    say(rt, b"read");
+    say_bytes(rt, bytes);
+    say(rt, b" = ");
     match unpack::read(bytes) {
         Reading::Number(n, taken) => {
-            say_number(n);
-            say(b" ");
-            say_count(taken);
+            say_number(rt, n);
+            say(rt, b" ");
+            say_count(rt, taken);
         }
-        Reading::Faulty(fault) => say_fault(fault),
+        Reading::Faulty(fault) => say_fault(rt, fault),
     }
 }
 
-pub fn show_signed_reading(bytes: &[u8]) {
-    say(b"readsigned");
-    say_bytes(bytes);
-    say(b" = ");
+pub fn show_signed_reading(rt: &impl Print, bytes: &[u8]) {
+    say(rt, b"readsigned");
+    say_bytes(rt, bytes);
+    say(rt, b" = ");
     match unpack::read_signed(bytes) {
         SignedReading::Number(n, taken) => {
-            say_signed(n);
-            say(b" ");
-            say_count(taken);
+            say_signed(rt, n);
+            say(rt, b" ");
+            say_count(rt, taken);
         }
-        SignedReading::Faulty(fault) => say_fault(fault),
+        SignedReading::Faulty(fault) => say_fault(rt, fault),
     }
 }
 
-pub fn show_writing(n: u32, at: usize, room: usize)
+pub fn show_writing(rt: &impl Print, n: u32, at: usize, room: usize)
     requires { room ≤ 8 }
 {
-    say(b"write ");
-    say_number(n);
-    say(b" at ");
-    say_count(at);
-    say(b" of ");
-    say_count(room);
-    say(b" = ");
+    say(rt, b"write ");
+    say_number(rt, n);
+    say(rt, b" at ");
+    say_count(rt, at);
+    say(rt, b" of ");
+    say_count(rt, room);
+    say(rt, b" = ");
     let mut buffer = [UNWRITTEN; BUFFER_SIZE];
     match write_in_front(n, &mut buffer, at, room) {
-        Written::End(end) => say_count(end),
-        Written::TooShort => say_size_refusal(),
+        Written::End(end) => say_count(rt, end),
+        Written::TooShort => say_size_refusal(rt),
     }
-    say_bytes(&buffer);
+    say_bytes(rt, &buffer);
 }
 
-pub fn show_lap(difference: i32, entry: u32) {
-    say(b"lap ");
-    say_signed(difference);
-    say(b" ");
-    say_number(entry);
-    say(b" = ");
+pub fn show_lap(rt: &impl Print, difference: i32, entry: u32) {
+    say(rt, b"lap ");
+    say_signed(rt, difference);
+    say(rt, b" ");
+    say_number(rt, entry);
+    say(rt, b" = ");
     match laps::key_of_lap(difference, entry) {
-        KeyAnswer::Key(key) => say_signed(key),
-        KeyAnswer::Refused => say_key_refusal(),
+        KeyAnswer::Key(key) => say_signed(rt, key),
+        KeyAnswer::Refused => say_key_refusal(rt),
     }
 }
 
-pub fn show_key(key: i32) {
-    say(b"key ");
-    say_signed(key);
-    say(b" = ");
+pub fn show_key(rt: &impl Print, key: i32) {
+    say(rt, b"key ");
+    say_signed(rt, key);
+    say(rt, b" = ");
     match laps::lap_of_key(key) {
         LapAnswer::Lap(lap) => {
-            say_signed(lap.difference);
-            say(b" ");
-            say_number(lap.entry);
+            say_signed(rt, lap.difference);
+            say(rt, b" ");
+            say_number(rt, lap.entry);
         }
-        LapAnswer::Refused => say_key_refusal(),
+        LapAnswer::Refused => say_key_refusal(rt),
     }
 }
 
-pub fn show_pad(thousandths: i32) {
-    say(b"pad ");
-    say_signed(thousandths);
-    say(b" = ");
+pub fn show_pad(rt: &impl Print, thousandths: i32) {
+    say(rt, b"pad ");
+    say_signed(rt, thousandths);
+    say(rt, b" = ");
     match laps::difference_of_pad(thousandths) {
-        PadAnswer::Difference(difference) => say_signed(difference),
-        PadAnswer::Refused => say_key_refusal(),
+        PadAnswer::Difference(difference) => say_signed(rt, difference),
+        PadAnswer::Refused => say_key_refusal(rt),
     }
 }
 
-pub fn show_unknown(kind: u8) {
-    say(b"? ");
-    say_number(kind as u32);
+pub fn show_unknown(rt: &impl Print, kind: u8) {
+    say(rt, b"? ");
+    say_number(rt, kind as u32);
 }

@@ -13,6 +13,7 @@ use reader::{read_command, read_opening};
 use schedule::{CommandReading, OpeningReading};
 use shapes::Board;
 use spelling::spell;
+use std::io::{Read, Write};
 use tally::{Played, end_line, keys_place, no_board};
 
 // What became of a command: its bytes, or none where the evening ended with it; and whether its line was written.
@@ -28,14 +29,20 @@ struct Shown {
 const PAGE: usize = 16_384;
 
 // Writes a line, with its keys from place `from` of the found ones; false where it cannot be written.
-fn say(out: i32, line: Line, found: &[i32], from: usize) -> bool {
+fn say<W: Write>(out: &mut W, line: Line, found: &[i32], from: usize) -> bool {
     let mut page = [0u8; PAGE];
     let size = spell(line, found, from, &mut page);
-    io::write_all(out, &page[..size])
+    out.write_all(&page[..size]).is_ok()
 }
 
 // A command that does not read.
-fn say_unread(out: i32, which: u32, board: Board, turns: [u64; 8], found: &[i32]) -> Shown
+fn say_unread<W: Write>(
+    out: &mut W,
+    which: u32,
+    board: Board,
+    turns: [u64; 8],
+    found: &[i32],
+) -> Shown
     ensures { result.taken ≡ 0 }
 {
     let said = say(out, Line::Bad(which), found, 0);
@@ -48,7 +55,7 @@ fn say_unread(out: i32, which: u32, board: Board, turns: [u64; 8], found: &[i32]
 }
 
 // A command of so many bytes that has been played.
-fn say_played(out: i32, taken: usize, played: Played, found: &[i32]) -> Shown
+fn say_played<W: Write>(out: &mut W, taken: usize, played: Played, found: &[i32]) -> Shown
     ensures { result.taken ≡ taken }
 {
     let line = played.line;
@@ -64,8 +71,8 @@ fn say_played(out: i32, taken: usize, played: Played, found: &[i32]) -> Shown
 }
 
 // One command at the front of what is left.
-fn show_command(
-    out: i32,
+fn show_command<W: Write>(
+    out: &mut W,
     which: u32,
     commands: &[u8],
     at: usize,
@@ -87,8 +94,8 @@ fn show_command(
 }
 
 // The commands behind the opening, each handing on the rest, until none is left or one does not read.
-fn show_commands(
-    out: i32,
+fn show_commands<W: Write>(
+    out: &mut W,
     commands: &[u8],
     first: Board,
     nodes: &mut [u32],
@@ -118,7 +125,7 @@ fn show_commands(
 }
 
 // False where the lines cannot be written.
-pub fn show(out: i32, file: &[u8]) -> bool {
+pub fn show<W: Write>(out: &mut W, file: &[u8]) -> bool {
     let mut nodes = [0u32; 10_240];
     let mut records = [0u32; 11_264];
     let mut pending = [0u32; 8_192];
@@ -156,8 +163,8 @@ pub enum Ending {
     Unwritable,
 }
 
-// The schedule that one file holds, its lines written to another.
-pub fn show_from(from: i32, to: i32) -> Ending {
+// The schedule that a reader holds, its lines written to a writer.
+pub fn show_from<R: Read, W: Write>(from: &mut R, to: &mut W) -> Ending {
     let mut file = room();
     match read_all(from, &mut file) {
         Input::Came(size) => {

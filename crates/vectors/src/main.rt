@@ -1,45 +1,76 @@
 // Plays the schedules whose names stand on standard input, a line to each, and prints each name and its lines.
+// What fails is said on standard error.
 #![tactic(auto)]
 
+ghost use Rattle.std.specs.Prelude.{◌≤◌, length};
+
 use input::{Input, read_all, room};
-use libc::{STDIN_FILENO, STDOUT_FILENO};
 use showing::{Ending, show_from};
+use std::fs::File;
+use std::io::{self, Read};
+use std::rt::Files;
 
 const LINE_FEED: u8 = 10;
 
-fn play(file: i32) {
-    match show_from(file, STDOUT_FILENO) {
+// Nobody is left to be told where this fails too.
+fn fail(rt: &impl Eprint, what: &str) {
+    let _ = rt.eprintln(what);
+}
+
+fn play<R: Read>(rt: &(impl Print + Eprint), file: &mut R) {
+    match show_from(file, &mut io::writer(rt)) {
         Ending::Shown => {}
-        Ending::Unreadable => os::fail(b"vectors: a schedule cannot be read"),
-        Ending::Unwritable => os::fail(b"vectors: lines cannot be written"),
+        Ending::Unreadable => fail(rt, "vectors: a schedule cannot be read"),
+        Ending::Unwritable => fail(rt, "vectors: lines cannot be written"),
     }
 }
 
-fn play_named(name: &[u8]) {
-    io::write_all(STDOUT_FILENO, name);
-    io::write_all(STDOUT_FILENO, &[LINE_FEED]);
-    let file = os::open_read(name);
-    if file < 0 {
-        os::fail(b"vectors: a schedule cannot be opened");
-        return;
-    }
-    play(file);
-    libc::close(file);
+// The name stands on a line of its own. What cannot be written of it is passed over.
+fn say_name(rt: &impl Print, name: &[u8]) {
+    let _ = rt.write_all(name);
+    let _ = rt.write_all(&[LINE_FEED]);
 }
 
-fn play_all(names: &[u8]) {
+fn open_and_play(rt: &(impl Files + Print + Eprint), name: &str) {
+    match File::open(rt, name) {
+        Ok(mut file) => play(rt, &mut file),
+        Err(_) => fail(rt, "vectors: a schedule cannot be opened"),
+    }
+}
+
+fn play_named(rt: &(impl Files + Print + Eprint), name: &[u8]) {
+    say_name(rt, name);
+    match str::from_utf8(name) {
+        Ok(text) => open_and_play(rt, text),
+        Err(_) => fail(rt, "vectors: a schedule cannot be opened"),
+    }
+}
+
+// Where the name that begins at `start` ends.
+fn name_end(names: &[u8], start: usize) -> usize
+    requires { start ≤ length names.now }
+    ensures lower_bound { start ≤ result }
+    ensures upper_bound { result ≤ length names.now }
+{
+    match names[start..].iter().position(|byte| *byte == LINE_FEED) {
+        Some(size) => start + size,
+        None => names.len(),
+    }
+}
+
+fn play_all(rt: &(impl Files + Print + Eprint), names: &[u8]) {
     let mut at = 0;
     while at < names.len() {
-        let end = bytes::scan::find(names, at, names.len(), LINE_FEED);
-        play_named(&names[at..end]);
+        let end = name_end(names, at);
+        play_named(rt, &names[at..end]);
         at = end + 1;
     }
 }
 
-fn main() {
+fn main(rt: HostRuntime) {
     let mut names = room();
-    match read_all(STDIN_FILENO, &mut names) {
-        Input::Came(size) => play_all(&names[..size]),
-        Input::Unreadable => os::fail(b"vectors: the names cannot be read"),
+    match read_all(&mut rt.stdin(), &mut names) {
+        Input::Came(size) => play_all(&rt, &names[..size]),
+        Input::Unreadable => fail(&rt, "vectors: the names cannot be read"),
     }
 }
