@@ -27,10 +27,11 @@ mod telling; // what is printed
 mod calling; // the calls
 mod desk; // one line obeyed
 
+ghost use Rattle.std.specs.Prelude.{◌≤◌, length};
+
 use crate::desk::{bare_desk, obey};
 use crate::line::{command, line_end};
-use crate::telling::say;
-use input::{Input, read_all};
+use std::io::Read;
 
 // The longest script; what stands behind is not read.
 const MOST: usize = 65_536;
@@ -84,10 +85,23 @@ fn play(rt: &impl Print, script: &[u8]) {
     }
 }
 
+// Reads to the end, or until the buffer is full. A read that fails is an end too: what came before is played.
+fn read_full<R: Read>(from: &mut R, buffer: &mut [u8]) -> usize
+    ensures { result ≤ length buffer.new }
+{
+    let mut done = 0;
+    while done < buffer.len() {
+        match from.read(&mut buffer[done..]) {
+            Ok(0) => return done,
+            Ok(came) => done += came,
+            Err(_) => return done,
+        }
+    }
+    done
+}
+
 fn main(rt: HostRuntime) {
     let mut script = [0; MOST];
-    match read_all(&mut rt.stdin(), &mut script) {
-        Input::Came(size) => play(&rt, &script[..size]),
-        Input::Unreadable => say(&rt, b"bad script: cannot be read\n"),
-    }
+    let size = read_full(&mut rt.stdin(), &mut script);
+    play(&rt, &script[..size]);
 }

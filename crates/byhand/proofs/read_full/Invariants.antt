@@ -1,0 +1,9 @@
+-- The bytes read stand within the buffer. The measure is the room left.
+use Rattle.std.proofs.Common.{length, ◌-◌, ◌≤◌}
+use Rattle.byhand.proofs.read_full.Given as goal
+
+abbrev pub invariant-loop-done : goal.invariant-loop-done
+invariant-loop-done g l = l.done ≤ length l.buffer
+
+abbrev pub decreases-loop-done : goal.decreases-loop-done
+decreases-loop-done g l = length l.buffer - l.done
