@@ -16,7 +16,8 @@ use Rattle.tables.specs.Names.{number_of}
 use Rattle.tables.specs.Nodes.{is_internal, rank_at}
 use Rattle.tables.specs.Versions.{read_child}
 use Rattle.listing.specs.Listing.{Walked, crooked, walked, leaf_keys, at_leaf, behind, and_then, to_child, walk}
-use Rattle.listing.specs.Leaves.{Within, walk-within}
+use Rattle.listing.specs.Leaves.{Within}
+use Rattle.listing.proofs.Leaves.{walk-within}
 use Rattle.lister.specs.Lists.{Stands, lost, stands, into}
 
 -- ---- down a level

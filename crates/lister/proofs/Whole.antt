@@ -18,7 +18,8 @@ use Rattle.sound.specs.Sound.{sound_of}
 use Rattle.sound.specs.Meaning.{Sound}
 use Rattle.sound.specs.Agree.{says-sound}
 use Rattle.listing.specs.Listing.{Walked, crooked, walked, walk, listed, refused, into_list, list_of}
-use Rattle.listing.specs.Leaves.{Within, walk-within}
+use Rattle.listing.specs.Leaves.{Within}
+use Rattle.listing.proofs.Leaves.{walk-within}
 use Rattle.lister.specs.Lists.{lost, stands, standing, into}
 use Rattle.lister.specs.declared.walk.Walking.{Walking}
 use Rattle.lister.specs.declared.walk.Walking.TheVariants as walking

@@ -1,14 +1,13 @@
--- Worked examples of the version listing: of fresh tables, after evenings, of versions, refused and crooked.
-use Rattle.std.specs.Prelude.{ℕ, ◌≡◌, refl, List, [], ◌∷◌, replicate, ℤ, pos, negsuc}
+-- Worked examples of the version listing: of fresh tables, after evenings, of versions, refused and crooked. They are computed in proofs/Examples.antt.
+use Rattle.std.specs.Prelude.{ℕ, ◌≡◌, List, [], ◌∷◌, replicate, ℤ, pos, negsuc}
 use Rattle.shapes.specs.declared.Refusal.TheVariants as refusal
 use Rattle.tables.specs.Names.{phase}
 use Rattle.tables.specs.World.{World}
-use Rattle.steps.specs.Opened.{steps_opened}
-use Rattle.steps.specs.Play.{fresh, insert, delete, scans, took, done}
+use Rattle.steps.specs.Play.{fresh, insert, delete, scans, done}
 use Rattle.steps.specs.Hands.{with_node, with_used, with_counter, phase_word, left_word, right_word}
 use Rattle.steps.specs.Errors.{old_scan}
 use Rattle.steps.specs.Deletes.{two, three}
-use Rattle.listing.specs.Listing.{leaf_keys, at_leaf, behind, and_then, to_child, walk, Listed, listed, refused, into_list, list_of}
+use Rattle.listing.specs.Listing.{Listed, listed, refused, list_of}
 
 -- a lent list of n places, full of nines
 abbrev pub nines : ℕ → List ℤ
@@ -72,28 +71,3 @@ pub record Examples : Type 0 where
   pub many_leaves : version 0 shared ≡ refused refusal.Crooked (nines 16)
   pub one_too_many : version 0 (with_used 15 4 shared) ≡ refused refusal.Crooked (nines 16)
   pub just_enough : version 0 (with_used 16 4 shared) ≡ listed 16 (pos 5 ∷ pos 7 ∷ pos 5 ∷ pos 7 ∷ pos 5 ∷ pos 7 ∷ pos 5 ∷ pos 7 ∷ pos 5 ∷ pos 7 ∷ pos 5 ∷ pos 7 ∷ pos 5 ∷ pos 7 ∷ pos 5 ∷ pos 7 ∷ [])
-
-pub examples : Examples
-unfolding steps_opened fresh insert delete scans took done two three old_scan leaf_keys at_leaf behind and_then to_child walk into_list list_of version inserted next_phase three_phases cycle shared too_late
-examples = record {
-  of_fresh = refl;
-  rising = refl;
-  negative = refl;
-  left_to_right = refl;
-  old_version = refl;
-  new_version = refl;
-  phase0 = refl;
-  phase1 = refl;
-  phase2 = refl;
-  last_phase = refl;
-  too_short = refl;
-  longer = refl;
-  unsound = refl;
-  a_cycle = refl;
-  table_first = refl;
-  walk_fails = refl;
-  walk_holds = refl;
-  many_leaves = refl;
-  one_too_many = refl;
-  just_enough = refl;
-}

@@ -1,0 +1,3 @@
+pub mod Leaves
+pub mod Kept
+pub mod Examples
