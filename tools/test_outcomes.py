@@ -35,7 +35,7 @@ def libraries():
 
 def listed():
     """Each function whose contract outcomes cites, with what it sees of a call: (crate, name, the rest of the line)."""
-    texts = "".join(p.read_text() for p in (CRATES / "outcomes" / "specs").glob("*.antt"))
+    texts = "".join(p.read_text() for folder in ("specs", "proofs") for p in (CRATES / "outcomes" / folder).glob("*.antt"))
     return re.findall(r"(\w+)\.(\w+)\.Reads\.Post(.*)", texts)
 
 

@@ -1,7 +1,8 @@
 -- Every exported function on the way to a turn, a run and a start: each has one outcome.
 use Rattle.laws.specs.Outcomes.{OneOutcome, OneAnswer, one_answer, one-answer-at}
 use Rattle.tables.specs.Names.{root}
-use Rattle.outcomes.specs.Lent.{exit, writes, reads, runs}
+use Rattle.outcomes.specs.Lent.{exit}
+use Rattle.outcomes.proofs.Lent.{writes, reads, runs}
 use Rattle.hand.proofs as hand
 use Rattle.seek.proofs as seek
 use Rattle.taking.proofs as taking

@@ -1,6 +1,7 @@
 -- Every exported function on the way to a printed line: each has one outcome.
 use Rattle.laws.specs.Outcomes.{OneOutcome, OneAnswer, one_answer}
-use Rattle.outcomes.specs.Lent.{with, fills}
+use Rattle.outcomes.specs.Lent.{with}
+use Rattle.outcomes.proofs.Lent.{fills}
 use Rattle.lines.proofs as lines
 use Rattle.counts.proofs as counts
 

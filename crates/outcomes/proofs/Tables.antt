@@ -4,7 +4,8 @@ use Rattle.std.proofs.Common.{sym, ◌∙◌}
 use Rattle.laws.specs.Outcomes.{OneOutcome, one_outcome, OneAnswer, one_answer, one-answer-at}
 use Rattle.tables.specs.World.{tables}
 use Rattle.tally.specs.Whole.{lent}
-use Rattle.outcomes.specs.Lent.{puts, with_both}
+use Rattle.outcomes.specs.Lent.{with_both}
+use Rattle.outcomes.proofs.Lent.{puts}
 use Rattle.words.proofs as words
 use Rattle.nodes.proofs as nodes
 use Rattle.records.proofs as records

@@ -1,0 +1,34 @@
+-- What is seen of a call can be had back from what its contract says of it: one outcome, for each way in which lists are lent.
+use Rattle.std.specs.Prelude.{ℕ, ◌≡◌, refl, List}
+use Rattle.std.specs.Borrow.{MutBor}
+use Rattle.laws.specs.Outcomes.{OneOutcome, one_outcome, answer}
+use Rattle.shapes.specs.declared.Reply.{Reply}
+use Rattle.shapes.specs.declared.Run.{Run}
+use Rattle.tables.specs.Fresh.{Left}
+use Rattle.steps.specs.Turn.{Ran}
+use Rattle.lines.specs.Page.{Page, page}
+use Rattle.outcomes.specs.Lent.{with, Lent, Shown, exit, shown, lists, all_left, all_ran, reply_back, run_back}
+
+-- ---- one list, or two
+
+-- a list written, and nothing answered
+pub puts : {K A R E T : Type 0} (list : E → MutBor (List T)) (f : K → A → List T) → OneOutcome (λ (k : K) (a : A) (r : R) (x : E). (list x).now ≡ f k a) (λ r x. (list x).now)
+puts list = one_outcome (λ r x. (list x).now) (λ a o. o) (λ o. o) (λ a o. refl)
+
+-- a page that a text is put on
+pub fills : {K A E : Type 0} (out : E → MutBor (List ℕ)) (f : K → A → Page) → OneOutcome (λ (k : K) (a : A) (r : ℕ) (x : E). page r (out x).now ≡ f k a) (λ r x. with r (out x))
+fills out = one_outcome (λ r x. with r (out x)) (λ a o. page o.0 o.1) (λ p. (p.at, p.bytes)) (λ a o. refl)
+
+-- ---- the tables: nodes, records, pending and found stand last among what a call is given
+
+-- a call that may write to the tables
+pub writes : {K A E : Type 0} (tables : E → Lent) (f : K → A → Left) → OneOutcome (λ (k : K) (a : A) (r : Reply) (x : E). all_left (exit r (tables x)) ≡ f k a) (λ r x. exit r (tables x))
+writes tables = one_outcome (λ r x. exit r (tables x)) (λ a. all_left) (λ d. lists (reply_back d) d.world) (λ a o. refl)
+
+-- a call that only reads them: at exit they are what they were
+pub reads : {K A E : Type 0} (tables : A → Shown) (f : K → A → Left) → OneOutcome (λ (k : K) (a : A) (r : Reply) (x : E). all_left (shown r (tables a)) ≡ f k a) answer
+reads tables = one_outcome answer (λ a r. all_left (shown r (tables a))) reply_back (λ a r. refl)
+
+-- turns in a row
+pub runs : {K A E : Type 0} (tables : E → Lent) (f : K → A → Ran) → OneOutcome (λ (k : K) (a : A) (r : Run) (x : E). all_ran (exit r (tables x)) ≡ f k a) (λ r x. exit r (tables x))
+runs tables = one_outcome (λ r x. exit r (tables x)) (λ a. all_ran) (λ d. lists (run_back d) d.world) (λ a o. refl)

@@ -1,0 +1,5 @@
+pub mod Lent
+pub mod Outcomes
+pub mod Tables
+pub mod Turns
+pub mod Pages
