@@ -11,7 +11,7 @@ import unittest
 
 CRATES = pathlib.Path(__file__).resolve().parent.parent / "crates"
 
-# What they write, or read, cannot be said in a contract (docs/DECISIONS.md, 36).
+# What they write, or read, no contract says (docs/DECISIONS.md, 36).
 WITHOUT_EQUATION = {"input", "showing"}
 
 # The tables stand last among what a call is given, and are seen together: nodes, records, pending, found.

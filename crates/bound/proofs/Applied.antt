@@ -7,7 +7,7 @@ use Rattle.steps.specs.Play.{fresh, lent}
 use Rattle.steps.specs.Kept.{is_refused}
 use Rattle.bound.specs.Histories.{Call, delete, asked, after}
 use Rattle.bound.specs.Statement.{HasPhase, NeverWaits, Bound}
-use Rattle.bound.proofs.Examples.{key, turns, inserts5, scans}
+use Rattle.bound.specs.Examples.{key, turns, inserts5, scans}
 use Rattle.bound.proofs.Induction.{bound}
 
 abbrev before : List Call

@@ -6,7 +6,7 @@ use Rattle.std.proofs.Math.Bool.{true, false}
 use native.Mathlib.Omega.{arith}
 use borrow.Author.Tests.{ltb-true, lt-ltb}
 use Rattle.shapes.specs.declared.Filling.{Filling}
-use Rattle.tables.specs.Names.{record_no, dummy}
+use Rattle.tables.specs.Names.{record_no}
 use Rattle.tables.specs.RecordWrites.{filling_at}
 use Rattle.tables.specs.World.{Tables}
 use Rattle.sound.specs.Meaning.{TablesSound}

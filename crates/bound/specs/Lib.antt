@@ -7,3 +7,5 @@ pub mod Reached
 pub mod Starts
 pub mod Own
 pub mod Turns
+pub mod Examples
+pub mod Cheats

@@ -1,6 +1,6 @@
 // A schedule played on tables of the largest sizes, its lines written out one by one.
 //
-// What is written cannot be said in a contract: the logic has no word for it. All else is a proved function of a library.
+// No contract says what is written. All else is a proved function of a library.
 #![tactic(auto)]
 
 ghost use Rattle.std.specs.Prelude.{◌≡◌, ◌+◌, ◌≤◌, length};

@@ -34,7 +34,9 @@ fn say_name(rt: &impl Print, name: &[u8]) {
 fn open_and_play(rt: &(impl Files + Print + Eprint), name: &str) {
     match File::open(rt, name) {
         Ok(mut file) => play(rt, &mut file),
-        Err(_) => fail(rt, "vectors: a schedule cannot be opened"),
+        Err(why) => {
+            let _ = eprintln!(rt; "vectors: a schedule cannot be opened: {why}");
+        }
     }
 }
 
