@@ -1,4 +1,4 @@
-// The first k places 0; what lies beyond them keeps its contents.
+// The first k places become 0, and the places behind them stay as they are.
 ghost use Rattle.std.specs.Prelude.{◌≡◌, ◌≤◌, length, pos};
 ghost use Rattle.tables.specs.World.{idle};
 ghost use Rattle.tables.specs.Fresh.{cleared};

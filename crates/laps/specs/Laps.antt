@@ -53,13 +53,13 @@ difference_in_range d = between (minus most_difference) d (pos most_difference)
 unfoldable pub lap_in_range : ℤ → ℕ → Bool
 lap_in_range d e = difference_in_range d && leb e last_entry
 
--- "A pad reports r in thousandths, −10,000,000 to 10,000,000"
+-- what a pad can report, in thousandths of a second
 unfoldable pub pad_in_range : ℤ → Bool
 pad_in_range r = between (minus most_pad) r (pos most_pad)
 
 -- ---- keys
 
--- "Its key is d × 1,024 + e"
+-- 1,024 keys for each difference, one for each entry
 unfoldable pub key_of : ℤ → ℕ → ℤ
 key_of d e = d *ℤ pos entries +ℤ pos e
 
@@ -73,13 +73,13 @@ unfoldable pub floor_rest : ℤ → ℕ → ℕ
 floor_rest (pos n) by = n % by
 floor_rest (negsuc n) by = by - suc (n % by)
 
--- "d is the key divided by 1,024 rounded down, e what remains"
+-- the key divided by 1,024, rounded down, and the remainder
 unfoldable pub lap_at : ℤ → Lap
 lap_at key = record { difference = floor_div key entries; entry = floor_rest key entries }
 
 -- ---- pads
 
--- "d is r divided by 10 with the fraction dropped"
+-- a tenth of the report, what stands behind the point left out
 unfoldable pub pad_difference : ℤ → ℤ
 pad_difference r = quot_z r (pos per_hundredth)
 
@@ -106,7 +106,7 @@ told_pad pad-answer.Refused = refused key_refusal
 unfoldable pub key_of_lap : ℤ → ℕ → Told ℤ
 key_of_lap d e = pick (lap_in_range d e) (gives (key_of d e)) (refused key_refusal)
 
--- the lap of a key: "A key whose d falls outside is refused 6"
+-- the lap of a key, refused 6 where its difference would be out of range
 unfoldable pub lap_of_key : ℤ → Told Lap
 lap_of_key key = pick (difference_in_range (floor_div key entries)) (gives (lap_at key)) (refused key_refusal)
 

@@ -76,19 +76,19 @@ keys_words (Keys n) keys = map signed keys
 keys_words NoRoom keys = []
 keys_words NoPhase keys = []
 
--- "command number (from 1), worker, then yes, no, keys, no-room, no-phase or refused; then the turns the operation took, or the
--- refusal number; for keys, the keys"
+-- which command (the first is 1), whose, what it came to in a word, and how many turns the operation took; a scan's keys stand last
 unfoldable pub answered_text : ℕ → ℕ → Answer → ℕ → List ℤ → List ℕ
 answered_text command worker answer turns keys = line_of (decimal command) (decimal worker ∷ answer_word answer ∷ decimal turns ∷ keys_words answer keys)
 
+-- a refusal has its number where an answer has its turns
 unfoldable pub refused_text : ℕ → ℕ → Refusal → List ℕ
 refused_text command worker refusal = line_of (decimal command) (decimal worker ∷ refused_word ∷ decimal (refusal_number refusal) ∷ [])
 
--- "Last: `end`, commands read, nodes used, records used, Counter"
+-- the last line: how many commands were read, then what is used of nodes and of records, then Counter
 unfoldable pub end_text : ℕ → ℕ → ℕ → ℕ → List ℕ
 end_text commands nodes records counter = line_of end_word (decimal commands ∷ decimal nodes ∷ decimal records ∷ decimal counter ∷ [])
 
--- "A fault prints `bad` and the number of the command it stands in"
+-- what does not read is told by the number of its command, behind `bad`
 unfoldable pub bad_text : ℕ → List ℕ
 bad_text command = line_of bad_word (decimal command ∷ [])
 

@@ -1,4 +1,4 @@
--- 01, 'How tight the contracts are': "Prove that any two outcomes allowed are equal". Every public function of the library's face in
+-- 01, 'How tight the contracts are': a contract allows one outcome for each input. Every public function of the library's face in
 -- one list. No contract is written again here: `Reads.Post` is the function's own, as the check reads it off the code.
 use Rattle.laws.specs.Outcomes.{OneOutcome, OneAnswer}
 use Rattle.tally.specs.declared.Played.{Played}

@@ -36,7 +36,7 @@ pub record Each : Type 0 where
   pub scan_a_before_b : command_at (0x04 ∷ 0x01 ∷ 0x00 ∷ 0x12 ∷ []) ≡ command.Read (Scan 1 (pos 0) (pos 9)) 4
   pub turns_128 : command_at (0x05 ∷ 0x01 ∷ 0x80 ∷ 0x01 ∷ []) ≡ command.Read (Turns 1 128) 4
 
--- "A fault is an unknown command, n of 0, a number cut short, too long or too large"
+-- each way in which a command or an opening fails to read
 pub record Faults : Type 0 where
   pub command_0 : command_at (0x00 ∷ 0x00 ∷ 0x02 ∷ []) ≡ command.Faulty
   pub command_6 : command_at (0x06 ∷ 0x00 ∷ 0x02 ∷ []) ≡ command.Faulty
@@ -57,7 +57,7 @@ pub record Faults : Type 0 where
   pub command_8 : command_number command.Faulty ≡ 8
   pub opening_8 : opening_number opening.Faulty ≡ 8
 
--- "Schedule: at most 65,536 bytes; a longer one is a fault in its opening"
+-- the longest schedule, and one byte more
 pub record Longest : Type 0 where
   pub bytes_65536 : (s : List ℕ) → length s ≡ 65536 → opening_at s ≡ sized (numbers_at 3 s)
   pub bytes_65537 : (s : List ℕ) → length s ≡ 65537 → opening_at s ≡ opening.Faulty

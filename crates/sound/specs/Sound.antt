@@ -44,7 +44,7 @@ word_ok t u = leb u.mark 1 && used_record t u.info
 unfoldable pub phase_ok : Totals → Phase → Bool
 phase_ok t q = leb q.0 t.counter
 
--- used nodes 3 to N, used records 1 to M; Counter 0 to 65,535
+-- from 3 to N nodes are used and from 1 to M records; Counter is at most 65,535
 unfoldable pub used_ok : Totals → Bool
 used_ok t = all (between 3 t.nodes t.n ∷ between 1 t.records t.m ∷ leb t.counter last_phase ∷ [])
 

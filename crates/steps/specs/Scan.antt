@@ -1,4 +1,4 @@
--- RANGESCAN and SCANHELPER (lines 129 to 146). Pending are the nodes whose right child has been read and whose left is still to be read.
+-- RANGESCAN and SCANHELPER (lines 129 to 146). A node is pending from the turn that reads its right child to the turn that reads its left.
 use Rattle.std.specs.Prelude.{ℕ, ◌+◌, ◌-◌, List, Bool, true, false, ◌&&◌, eqb, leb, ltb}
 use Rattle.laws.specs.Choice.{pick}
 use Rattle.shapes.specs.Numbers.{last_phase}

@@ -45,7 +45,7 @@ keys_place t (Bad number) = 0
 unfoldable pub spoken : Told → List ℕ
 spoken d = let s = d.evening.world in text_of d.line s.found (keys_place (totals_of s) d.line)
 
--- "Last: `end`, commands read, nodes used, records used, Counter"
+-- the last line, of the totals as the evening left them
 unfoldable pub end_line : ℕ → Totals → Line
 end_line commands t = End commands t.nodes t.records t.counter
 
@@ -75,6 +75,6 @@ begins add opening.Faulty s = faulted 0
 unfoldable pub printed_by : (ℕ → ℕ → ℕ) → List ℕ → List ℕ
 printed_by add s = begins add (opening_at s) s
 
--- "The program reads a schedule from standard input and prints one line per answer or refusal"; `exact` says that its counts are the sums
+-- all that the program prints for the bytes of a schedule; `exact` says that its counts are the sums
 abbrev pub printed : List ℕ → List ℕ
 printed = printed_by counted
