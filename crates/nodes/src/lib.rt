@@ -69,6 +69,7 @@ pub fn phase_at(ns: &[u32], x: NodeNo) -> Phase
     Phase(word(ns, NODE_WIDTH, x.0, PHASE))
 }
 
+#[tactic(auto, unfolding(tables::specs::Nodes::prev_at, laws::specs::Choice::pick))]
 pub fn prev_at(ns: &[u32], x: NodeNo) -> MaybeNode
     ensures { result ≡ prev_at ns.now x }
 {
@@ -135,6 +136,7 @@ pub fn same_record(r: RecordNo, q: RecordNo) -> bool
 }
 
 // The whole word: FLAG or MARK as well as the record.
+#[tactic(auto, unfolding(tables::specs::Names::same_update))]
 pub fn same_update(u: Update, v: Update) -> bool
     ensures { result ≡ same_update u v }
 {

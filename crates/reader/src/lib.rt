@@ -41,6 +41,7 @@ fn read_three(rest: &[u8]) -> Three
 }
 
 // N, M, P at the front of the whole file, and where the commands begin.
+#[tactic(auto, using(schedule::specs::Openings::too_long))]
 pub fn read_opening(file: &[u8]) -> OpeningReading
     ensures { result ≡ opening_at file.now }
 {

@@ -8,6 +8,7 @@ use shapes::{Answer, Back, Decision, Effect, HelpStep, Locals, MaybeNode, Place,
 use tables::LAST_PHASE;
 
 // Line 131; no phase when Counter stands at its last value.
+#[tactic(auto, unfolding(steps::specs::Scan::bump131, laws::specs::Choice::pick))]
 pub fn bump131(totals: Totals, v: Locals) -> Decision
     ensures { result ≡ bump131 totals v }
 {

@@ -3,7 +3,7 @@ use mathlib.Core.Path.{sym, ap, ◌∙◌}
 use native.Mathlib.Omega.{arith}
 use Rattle.laws.specs.Choice.{pick_true, pick_false}
 use Rattle.schedule.specs.Reading.{sized}
-use Rattle.schedule.specs.Openings.{not_too_long, too_long}
+use Rattle.schedule.specs.Openings.{not_too_long}
 use Rattle.reader.specs.Three.{three_of}
 use Rattle.reader.proofs.read_opening.Goals as goal
 
@@ -18,7 +18,3 @@ returns-then-not-sizes_ok c = sym (not_too_long _ (omega arith) ∙ ap sized (sy
 pub returns : goal.returns
 unfolding three_of sized
 returns c = sym (not_too_long _ (omega arith) ∙ ap sized (sym c.read_three-sizes.ensures ∙ ap three_of c.in-Numbers.is) ∙ pick_true _ _ _ (sym c.sizes_ok.ensures ∙ c.if-not-sizes_ok.false))
-
-pub returns-then-file-gt-MOST_BYTES : goal.returns-then-file-gt-MOST_BYTES
-unfolding three_of sized
-returns-then-file-gt-MOST_BYTES c = sym (too_long _ c.if-file-gt-MOST_BYTES.true)
