@@ -1,4 +1,4 @@
--- `grand66` is `grand66`: gp is a parent, and its word chooses.
+-- `grand66` is the definition of its name: gp is a parent, and its word chooses.
 use mathlib.Core.Path.{refl}
 use Rattle.laws.specs.Choice.{pick}
 use Rattle.steps.specs.Attempt.{grand66}

@@ -1,4 +1,4 @@
--- `leaf_word` is `leaf_word`: the word as it is read.
+-- `leaf_word` is the definition of its name: the word as it is read.
 use Rattle.steps.specs.Attempt.{leaf_word}
 use Rattle.attempts.proofs.leaf_word.Goals as goal
 

@@ -1,4 +1,4 @@
--- `reaches182` is `reaches182`: gp is there, and the test of the Root chooses.
+-- `reaches182` is the definition of its name: gp is there, and the test of the Root chooses.
 use mathlib.Core.Path.{refl}
 use Rattle.laws.specs.Choice.{pick}
 use Rattle.steps.specs.Attempt.{reaches182}

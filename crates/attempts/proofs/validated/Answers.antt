@@ -1,4 +1,4 @@
--- `validated` is `validated`, kind by kind; whether the key is present chooses.
+-- `validated` is the definition of its name, kind by kind; whether the key is present chooses.
 use borrow.Author.Tests.{eq-eqb, ne_eqb}
 use Rattle.laws.specs.Choice.{pick}
 use Rattle.steps.specs.Attempt.{validated}

@@ -1,4 +1,4 @@
--- `word189` is `word189`: the word as it is read.
+-- `word189` is the definition of its name: the word as it is read.
 use Rattle.steps.specs.Attempt.{word189}
 use Rattle.attempts.proofs.word189.Goals as goal
 

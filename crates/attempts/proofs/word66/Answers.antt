@@ -1,4 +1,4 @@
--- `word66` is `word66`: p is a parent; its word, then the test of the Root choose.
+-- `word66` is the definition of its name: p is a parent; its word, then the test of the Root choose.
 use mathlib.Core.Path.{refl}
 use Rattle.laws.specs.Choice.{pick}
 use Rattle.steps.specs.Attempt.{word66}

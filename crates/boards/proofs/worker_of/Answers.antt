@@ -1,4 +1,4 @@
--- `worker_of` is `worker_of`: the worker read is the one asked for.
+-- `worker_of` is the definition of its name: the worker read is the one asked for.
 use Rattle.boards.proofs.worker_of.Goals as goal
 
 pub returns : goal.returns

@@ -1,4 +1,4 @@
--- `started_counts` is `started_counts`, by the outcome.
+-- `started_counts` is the definition of its name, by the outcome.
 use mathlib.Core.Path.{refl}
 use Rattle.tally.specs.Playing.{started_counts}
 use Rattle.counts.proofs.started_counts.Goals as goal

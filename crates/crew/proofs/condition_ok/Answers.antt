@@ -1,4 +1,4 @@
--- `condition_ok` is `condition_ok`, on each way of the two matches.
+-- `condition_ok` is the definition of its name, on each way of the two matches.
 use mathlib.Core.Path.{refl}
 use Rattle.sound.specs.Sound.{condition_ok}
 use Rattle.crew.proofs.condition_ok.Goals as goal

@@ -1,4 +1,4 @@
--- `hand_ok` is `hand_ok`: its tests joined (`all-joined`).
+-- `hand_ok` is the definition of its name: its tests joined (`all-joined`).
 use mathlib.Core.Path.{sym}
 use Rattle.laws.specs.Every.{joined, all-joined}
 use Rattle.sound.specs.Sound.{hand_ok}

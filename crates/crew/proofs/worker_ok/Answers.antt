@@ -1,4 +1,4 @@
--- `worker_ok` is `worker_ok`: its tests joined (`all-joined`), of the worker read.
+-- `worker_ok` is the definition of its name: its tests joined (`all-joined`), of the worker read.
 use mathlib.Core.Path.{refl}
 use Rattle.laws.specs.Every.{joined, all-joined}
 use Rattle.tables.specs.World.{worker_at}

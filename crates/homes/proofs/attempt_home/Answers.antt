@@ -1,4 +1,4 @@
--- `attempt_home` is `attempt_home`, on each arm: a case for each variant that it names.
+-- `attempt_home` is the definition of its name, on each arm: a case for each variant that it names.
 use Rattle.std.proofs.Common.{arith}
 use Rattle.std.proofs.lemmas.Grind.{common_steps}
 use Rattle.sound.specs.Homes.{attempt_home}

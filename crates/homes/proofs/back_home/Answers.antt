@@ -1,4 +1,4 @@
--- `back_home` is `back_home`, on each way of the match.
+-- `back_home` is the definition of its name, on each way of the match.
 use mathlib.Core.Path.{refl}
 use Rattle.sound.specs.Homes.{back_home}
 use Rattle.homes.proofs.back_home.Goals as goal

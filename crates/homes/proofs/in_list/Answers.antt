@@ -1,4 +1,4 @@
--- `in_list` is `in_list`, on each arm: a case for each variant that it names.
+-- `in_list` is the definition of its name, on each arm: a case for each variant that it names.
 use Rattle.std.proofs.Common.{arith}
 use Rattle.std.proofs.lemmas.Grind.{common_steps}
 use Rattle.sound.specs.Homes.{in_list}

@@ -1,4 +1,4 @@
--- `is_delete` is `is_delete`, on each arm: a case for each variant that it names.
+-- `is_delete` is the definition of its name, on each arm: a case for each variant that it names.
 use mathlib.Core.Path.{refl}
 use Rattle.std.proofs.Common.{arith}
 use Rattle.std.proofs.lemmas.Grind.{common_steps}

@@ -1,4 +1,4 @@
--- `is_update` is `is_update`, on each arm: a case for each variant that it names.
+-- `is_update` is the definition of its name, on each arm: a case for each variant that it names.
 use mathlib.Core.Path.{refl}
 use Rattle.std.proofs.Common.{arith}
 use Rattle.std.proofs.lemmas.Grind.{common_steps}

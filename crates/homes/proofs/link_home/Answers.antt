@@ -1,4 +1,4 @@
--- `link_home` is `link_home`, on each arm: a case for each variant that it names.
+-- `link_home` is the definition of its name, on each arm: a case for each variant that it names.
 use Rattle.std.proofs.Common.{arith}
 use Rattle.std.proofs.lemmas.Grind.{common_steps}
 use Rattle.sound.specs.Homes.{link_home}

@@ -1,4 +1,4 @@
--- `listed` is `listed`, on each way of the match.
+-- `listed` is the definition of its name, on each way of the match.
 use mathlib.Core.Path.{refl}
 use Rattle.sound.specs.Homes.{listed}
 use Rattle.homes.proofs.listed.Goals as goal

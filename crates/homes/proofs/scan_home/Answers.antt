@@ -1,4 +1,4 @@
--- `scan_home` is `scan_home`, on each arm: a case for each variant that it names.
+-- `scan_home` is the definition of its name, on each arm: a case for each variant that it names.
 use mathlib.Core.Path.{refl}
 use Rattle.std.proofs.Common.{arith}
 use Rattle.std.proofs.lemmas.Grind.{common_steps}

@@ -1,4 +1,4 @@
--- `held` is `held`, call by call; after line 64 the test of the Root chooses.
+-- `held` is the definition of its name, call by call; after line 64 the test of the Root chooses.
 use Rattle.laws.specs.Choice.{pick}
 use Rattle.steps.specs.Attempt.{held}
 use Rattle.links.proofs.held.Goals as goal

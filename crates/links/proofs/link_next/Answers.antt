@@ -1,4 +1,4 @@
--- `link_next` is `link_next`, move by move.
+-- `link_next` is the definition of its name, move by move.
 use mathlib.Core.Path.{refl}
 use Rattle.steps.specs.Attempt.{link_next}
 use Rattle.links.proofs.link_next.Goals as goal

@@ -1,4 +1,4 @@
--- `link_step` is `link_step`: the arguments as they are read, one step of the call, and what follows it.
+-- `link_step` is the definition of its name: the arguments as they are read, one step of the call, and what follows it.
 use Rattle.steps.specs.Attempt.{link_step}
 use Rattle.links.proofs.link_step.Goals as goal
 

@@ -1,4 +1,4 @@
--- `sibling182` is `sibling182`: each match opens one `through`, the last way takes the child.
+-- `sibling182` is the definition of its name: each match opens one `through`, the last way takes the child.
 use mathlib.Core.Path.{refl}
 use Rattle.steps.specs.Attempt.{sibling182}
 use Rattle.steps.specs.Hand.{through}

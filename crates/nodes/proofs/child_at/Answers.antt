@@ -1,4 +1,4 @@
--- `child_at` is `child_at`: the side chooses the field that `word` reads.
+-- `child_at` is the definition of its name: the side chooses the field that `word` reads.
 use mathlib.Core.Path.{refl}
 use Rattle.tables.specs.Nodes.{child_at, side}
 use Rattle.nodes.proofs.child_at.Goals as goal

@@ -1,4 +1,4 @@
--- `is_internal` is `is_internal`, by what `kind_at` reads.
+-- `is_internal` is the definition of its name, by what `kind_at` reads.
 use mathlib.Core.Path.{refl}
 use Rattle.tables.specs.Nodes.{is_internal}
 use Rattle.nodes.proofs.is_internal.Goals as goal

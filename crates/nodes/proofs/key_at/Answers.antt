@@ -1,4 +1,4 @@
--- `key_at` is `key_at`: the value of the rank read.
+-- `key_at` is the definition of its name: the value of the rank read.
 use Rattle.tables.specs.Nodes.{key_at}
 use Rattle.nodes.proofs.key_at.Goals as goal
 

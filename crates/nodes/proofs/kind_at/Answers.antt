@@ -1,4 +1,4 @@
--- `kind_at` is `kind_at`, by what `word` reads.
+-- `kind_at` is the definition of its name, by what `word` reads.
 use Rattle.tables.specs.Nodes.{kind_at}
 use Rattle.nodes.proofs.kind_at.Goals as goal
 

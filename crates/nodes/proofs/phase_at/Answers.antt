@@ -1,4 +1,4 @@
--- `phase_at` is `phase_at`, by what `word` reads.
+-- `phase_at` is the definition of its name, by what `word` reads.
 use mathlib.Core.Path.{refl}
 use Rattle.tables.specs.Nodes.{phase_at}
 use Rattle.nodes.proofs.phase_at.Goals as goal

@@ -1,4 +1,4 @@
--- `rank_at` is `rank_at`, by the two words read.
+-- `rank_at` is the definition of its name, by the two words read.
 use mathlib.Core.Path.{refl}
 use Rattle.tables.specs.Nodes.{rank_at}
 use Rattle.nodes.proofs.rank_at.Goals as goal

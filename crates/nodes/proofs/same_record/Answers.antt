@@ -1,4 +1,4 @@
--- `same_record` is `same_record`, by computation.
+-- `same_record` is the definition of its name, by computation.
 use mathlib.Core.Path.{refl}
 use Rattle.tables.specs.Names.{same_record}
 use Rattle.nodes.proofs.same_record.Goals as goal

@@ -1,4 +1,4 @@
--- `set_child` is `set_child`: the side chooses the field that `put_word` writes.
+-- `set_child` is the definition of its name: the side chooses the field that `put_word` writes.
 use Rattle.tables.specs.Nodes.{set_child, side}
 use Rattle.nodes.proofs.set_child.Goals as goal
 

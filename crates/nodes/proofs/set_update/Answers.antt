@@ -1,4 +1,4 @@
--- `set_update` is `set_update`, one word after the other.
+-- `set_update` is the definition of its name, one word after the other.
 use Rattle.tables.specs.Nodes.{set_update}
 use Rattle.nodes.proofs.set_update.Goals as goal
 

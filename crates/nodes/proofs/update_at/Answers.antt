@@ -1,4 +1,4 @@
--- `update_at` is `update_at`, by the two words read.
+-- `update_at` is the definition of its name, by the two words read.
 use mathlib.Core.Path.{refl}
 use Rattle.tables.specs.Nodes.{update_at}
 use Rattle.nodes.proofs.update_at.Goals as goal

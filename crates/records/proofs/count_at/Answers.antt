@@ -1,4 +1,4 @@
--- `count_at` is `count_at`, by what `word` reads.
+-- `count_at` is the definition of its name, by what `word` reads.
 use Rattle.tables.specs.Records.{count_at}
 use Rattle.records.proofs.count_at.Goals as goal
 

@@ -1,4 +1,4 @@
--- `entry_at` is `entry_at`, by the four words read.
+-- `entry_at` is the definition of its name, by the four words read.
 use mathlib.Core.Path.{refl}
 use Rattle.tables.specs.Records.{entry_at}
 use Rattle.records.proofs.entry_at.Goals as goal

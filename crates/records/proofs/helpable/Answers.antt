@@ -1,4 +1,4 @@
--- `helpable` is `helpable`: the dummy's test chooses, the count decides.
+-- `helpable` is the definition of its name: the dummy's test chooses, the count decides.
 use mathlib.Core.Path.{refl}
 use borrow.Author.Tests.{eq-eqb, ne_eqb}
 use Rattle.tables.specs.Records.{helpable}

@@ -1,4 +1,4 @@
--- `in_progress` is `in_progress`, by computation.
+-- `in_progress` is the definition of its name, by computation.
 use mathlib.Core.Path.{refl}
 use Rattle.tables.specs.Records.{in_progress}
 use Rattle.records.proofs.in_progress.Goals as goal

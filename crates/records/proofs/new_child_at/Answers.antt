@@ -1,4 +1,4 @@
--- `new_child_at` is `new_child_at`, by what `word` reads.
+-- `new_child_at` is the definition of its name, by what `word` reads.
 use mathlib.Core.Path.{refl}
 use Rattle.tables.specs.Records.{new_child_at}
 use Rattle.records.proofs.new_child_at.Goals as goal

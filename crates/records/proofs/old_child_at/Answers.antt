@@ -1,4 +1,4 @@
--- `old_child_at` is `old_child_at`, by what `word` reads.
+-- `old_child_at` is the definition of its name, by what `word` reads.
 use mathlib.Core.Path.{refl}
 use Rattle.tables.specs.Records.{old_child_at}
 use Rattle.records.proofs.old_child_at.Goals as goal

@@ -1,4 +1,4 @@
--- `par_at` is `par_at`, by what `word` reads.
+-- `par_at` is the definition of its name, by what `word` reads.
 use mathlib.Core.Path.{refl}
 use Rattle.tables.specs.Records.{par_at}
 use Rattle.records.proofs.par_at.Goals as goal

@@ -1,4 +1,4 @@
--- `seq_at` is `seq_at`, by what `word` reads.
+-- `seq_at` is the definition of its name, by what `word` reads.
 use mathlib.Core.Path.{refl}
 use Rattle.tables.specs.Records.{seq_at}
 use Rattle.records.proofs.seq_at.Goals as goal

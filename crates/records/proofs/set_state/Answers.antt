@@ -1,4 +1,4 @@
--- `set_state` is `set_state`, by what `put_word` writes.
+-- `set_state` is the definition of its name, by what `put_word` writes.
 use Rattle.tables.specs.Records.{set_state}
 use Rattle.records.proofs.set_state.Goals as goal
 

@@ -1,4 +1,4 @@
--- `state_at` is `state_at`, by what `word` reads.
+-- `state_at` is the definition of its name, by what `word` reads.
 use Rattle.tables.specs.Records.{state_at}
 use Rattle.records.proofs.state_at.Goals as goal
 

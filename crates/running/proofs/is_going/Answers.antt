@@ -1,4 +1,4 @@
--- `is_going` is `is_going`: an arm for each case.
+-- `is_going` is the definition of its name: an arm for each case.
 use mathlib.Core.Path.{refl}
 use Rattle.running.specs.Loop.{is_going}
 use Rattle.running.proofs.is_going.Goals as goal

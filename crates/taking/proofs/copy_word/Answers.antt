@@ -1,4 +1,4 @@
--- `copy_word` is `copy_word`: each match opens one `through`; the side chooses the place.
+-- `copy_word` is the definition of its name: each match opens one `through`; the side chooses the place.
 use mathlib.Core.Path.{refl}
 use Rattle.laws.specs.Choice.{pick}
 use Rattle.steps.specs.Attempt.{copy_word}

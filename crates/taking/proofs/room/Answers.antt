@@ -1,4 +1,4 @@
--- `room` is `room`: the test of the nodes chooses, the records decide; the sums fit 64 bits.
+-- `room` is the definition of its name: the test of the nodes chooses, the records decide; the sums fit 64 bits.
 use mathlib.Core.Path.{refl}
 use borrow.Author.Tests.{le-leb, lt-leb}
 use Rattle.steps.specs.Attempt.{room}

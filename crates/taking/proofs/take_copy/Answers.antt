@@ -1,4 +1,4 @@
--- `take_copy` is `take_copy`: room chooses, then the kind of the sibling chooses the place.
+-- `take_copy` is the definition of its name: room chooses, then the kind of the sibling chooses the place.
 use Rattle.laws.specs.Choice.{pick}
 use Rattle.steps.specs.Attempt.{take_copy}
 use Rattle.taking.proofs.take_copy.Goals as goal

@@ -1,4 +1,4 @@
--- `take_three` is `take_three`, by the test of room, which also shows that the internal node's number fits.
+-- `take_three` is the definition of its name, by the test of room, which also shows that the internal node's number fits.
 use Prim.Native.Nat.{ℕ, ◌+◌, ◌≤◌}
 use mathlib.Core.Path.{◌≡◌, sym, ◌∙◌}
 use mathlib.Core.Bool.{true}

@@ -1,4 +1,4 @@
--- `end_line` is `end_line`.
+-- `end_line` is the definition of its name.
 use mathlib.Core.Path.{refl}
 use Rattle.tally.specs.Whole.{end_line}
 use Rattle.tally.proofs.end_line.Goals as goal

@@ -1,4 +1,4 @@
--- `keys_place` is `keys_place`, by the line.
+-- `keys_place` is the definition of its name, by the line.
 use mathlib.Core.Path.{refl, sym, ◌∙◌}
 use native.Mathlib.Nat.{add-zero}
 use Rattle.tables.specs.World.{spot}

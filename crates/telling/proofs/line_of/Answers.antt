@@ -1,4 +1,4 @@
--- `line_of` is `line_of`, by the outcome.
+-- `line_of` is the definition of its name, by the outcome.
 use mathlib.Core.Path.{refl}
 use Rattle.tally.specs.Playing.{line_of}
 use Rattle.telling.proofs.line_of.Goals as goal

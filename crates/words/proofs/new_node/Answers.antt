@@ -1,4 +1,4 @@
--- `new_node` is `new_node`: on each way of prev the array is `new_row`, and `put_row` writes it.
+-- `new_node` is the definition of its name: on each way of prev the array is `new_row`, and `put_row` writes it.
 use Rattle.tables.specs.Nodes.{new_node, new_row}
 use Rattle.words.proofs.new_node.Goals as goal
 

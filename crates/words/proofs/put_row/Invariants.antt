@@ -1,4 +1,4 @@
--- `put_row` is `put_row`: after f turns the first f words of the row are set (`sets_more`); the words left fall.
+-- `put_row` is the definition of its name: after f turns the first f words of the row are set (`sets_more`); the words left fall.
 use mathlib.Core.Path.{◌≡◌}
 use Prim.Native.Nat.{◌-◌, ◌≤◌, ◌*◌}
 use lib.ListN.{length, take}

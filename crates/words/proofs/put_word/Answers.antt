@@ -1,4 +1,4 @@
--- `put_word` is `put_word`: the place fits 64 bits (`row_fits`), and `put` sets it.
+-- `put_word` is the definition of its name: the place fits 64 bits (`row_fits`), and `put` sets it.
 use native.Mathlib.Omega.{arith}
 use borrow.Author.Rules.{rules}
 use Rattle.tables.specs.Rows.{put_word}

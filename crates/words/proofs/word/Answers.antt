@@ -1,4 +1,4 @@
--- `word` is `word`: the place fits 64 bits (`row_fits`), and `get` reads it.
+-- `word` is the definition of its name: the place fits 64 bits (`row_fits`), and `get` reads it.
 use native.Mathlib.Omega.{arith}
 use borrow.Author.Rules.{rules}
 use Rattle.tables.specs.Rows.{word}

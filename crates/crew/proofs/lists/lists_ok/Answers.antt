@@ -1,4 +1,4 @@
--- `lists_ok` is `lists_ok`: its tests joined (`all-joined`); the counts decide whether pending nodes are looked at.
+-- `lists_ok` is the definition of its name: its tests joined (`all-joined`); the counts decide whether pending nodes are looked at.
 use mathlib.Core.Path.{refl}
 use Rattle.laws.specs.Every.{joined, all-joined}
 use Rattle.tables.specs.World.{worker_at, pending_at}

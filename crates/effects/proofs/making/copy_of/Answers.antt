@@ -1,4 +1,4 @@
--- `copy_of` is `copy_of`: the sibling's kind and rank as they were, then the row.
+-- `copy_of` is the definition of its name: the sibling's kind and rank as they were, then the row.
 use Rattle.steps.specs.Apply.{copy_of}
 use Rattle.effects.proofs.making.copy_of.Goals as goal
 

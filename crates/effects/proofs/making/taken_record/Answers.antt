@@ -1,4 +1,4 @@
--- `taken_record` is `taken_record`, by what `new_record` writes.
+-- `taken_record` is the definition of its name, by what `new_record` writes.
 use Rattle.steps.specs.Apply.{taken_record}
 use Rattle.effects.proofs.making.taken_record.Goals as goal
 

@@ -1,4 +1,4 @@
--- `three_nodes` is `three_nodes`: l's rank as it was before the rows, then each row over the one before it.
+-- `three_nodes` is the definition of its name: l's rank as it was before the rows, then each row over the one before it.
 use Rattle.steps.specs.Apply.{three_nodes}
 use Rattle.effects.proofs.making.three_nodes.Goals as goal
 

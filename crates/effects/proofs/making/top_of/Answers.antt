@@ -1,4 +1,4 @@
--- `top_of` is `top_of`: the comparison of the keys chooses the row that `new_node` writes.
+-- `top_of` is the definition of its name: the comparison of the keys chooses the row that `new_node` writes.
 use borrow.Author.Tests.{lt-ltb, le-ltb}
 use Rattle.laws.specs.Choice.{pick}
 use Rattle.steps.specs.Apply.{top_of}

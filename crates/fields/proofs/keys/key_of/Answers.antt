@@ -1,4 +1,4 @@
--- `key_of` is `key_of`: the key widened and moved up by 2^31 fits at each step (Signs).
+-- `key_of` is the definition of its name: the key widened and moved up by 2^31 fits at each step (Signs).
 use mir.Syntax.{w32, w64}
 use mir.ValLaws.{to_z-of_z}
 use Rattle.fields.proofs.Signs.{wide, up, up_fits, up_wide}

@@ -1,4 +1,4 @@
--- `number_of` is `number_of`: the number moved down by 2^31 fits at each step (Signs).
+-- `number_of` is the definition of its name: the number moved down by 2^31 fits at each step (Signs).
 use Prim.Native.Nat.{◌<◌}
 use native.Mathlib.Omega.{arith}
 use mir.Syntax.{w32, w64}

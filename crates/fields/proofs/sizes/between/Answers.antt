@@ -1,4 +1,4 @@
--- `between` is `between`: the first comparison chooses.
+-- `between` is the definition of its name: the first comparison chooses.
 use mathlib.Core.Path.{refl}
 use borrow.Author.Tests.{le-leb, lt-leb}
 use Rattle.tables.specs.Fresh.{between}

@@ -1,4 +1,4 @@
--- `lent_ok` is `lent_ok` at any board: the tests in the definition's order, each of which ends it or lets it go on.
+-- `lent_ok` is the definition of its name at any board: the tests in the definition's order, each of which ends it or lets it go on.
 use mathlib.Core.Path.{refl}
 use native.Mathlib.Omega.{arith}
 use borrow.Author.Tests.{le-leb, lt-leb}

@@ -1,4 +1,4 @@
--- `sizes_ok` is `sizes_ok`: the tests in the definition's order, each of which ends it or lets it go on.
+-- `sizes_ok` is the definition of its name: the tests in the definition's order, each of which ends it or lets it go on.
 use mathlib.Core.Path.{refl}
 use Rattle.laws.specs.Tests.{all}
 use Rattle.laws.specs.Choice.{pick}

@@ -1,4 +1,4 @@
--- `as_parent` is `as_parent`, on each way of the match and the test.
+-- `as_parent` is the definition of its name, on each way of the match and the test.
 use mathlib.Core.Path.{refl}
 use Rattle.laws.specs.Choice.{pick}
 use Rattle.tables.specs.Versions.{as_parent}

@@ -1,4 +1,4 @@
--- `read_child` is `read_child`: the walk from the child read.
+-- `read_child` is the definition of its name: the walk from the child read.
 use Rattle.tables.specs.Versions.{read_child}
 use Rattle.fields.proofs.versions.read_child.Goals as goal
 

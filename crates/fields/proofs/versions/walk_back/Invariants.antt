@@ -1,4 +1,4 @@
--- `walk_back` is `walk_back`: the walk that is left is the whole walk at every turn of the loop (Walks); the steps left fall.
+-- `walk_back` is the definition of its name: the walk that is left is the whole walk at every turn of the loop (Walks); the steps left fall.
 use mathlib.Core.Path.{◌≡◌}
 use Rattle.shapes.specs.declared.MaybeNode.TheVariants.{At}
 use Rattle.tables.specs.Versions.{walk_back}

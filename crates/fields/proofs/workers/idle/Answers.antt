@@ -1,4 +1,4 @@
--- `idle` is `idle`, with `blank` in hand.
+-- `idle` is the definition of its name, with `blank` in hand.
 use mathlib.Core.Path.{refl}
 use Rattle.fields.proofs.workers.idle.Goals as goal
 

@@ -1,4 +1,4 @@
--- `fresh_board` is `fresh_board`, by what `clear_workers` gives.
+-- `fresh_board` is the definition of its name, by what `clear_workers` gives.
 use Rattle.tables.specs.Fresh.{fresh_board}
 use Rattle.fresh.proofs.making.fresh_board.Goals as goal
 

@@ -1,4 +1,4 @@
--- `fresh_nodes` is `fresh_nodes`, one write after the other.
+-- `fresh_nodes` is the definition of its name, one write after the other.
 use Rattle.tables.specs.Fresh.{fresh_nodes}
 use Rattle.fresh.proofs.making.fresh_nodes.Goals as goal
 

@@ -1,4 +1,4 @@
--- `fresh_records` is `fresh_records`, one write after the other.
+-- `fresh_records` is the definition of its name, one write after the other.
 use mathlib.Core.Path.{refl}
 use Rattle.tables.specs.Fresh.{fresh_records}
 use Rattle.fresh.proofs.making.fresh_records.Goals as goal

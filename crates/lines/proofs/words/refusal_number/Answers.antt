@@ -1,4 +1,4 @@
--- `refusal_number` is `refusal_number`, arm by arm.
+-- `refusal_number` is the definition of its name, arm by arm.
 use borrow.Author.Rules.{rules}
 use Rattle.shapes.specs.Numbers.{refusal_number}
 use Rattle.lines.proofs.words.refusal_number.Goals as goal

@@ -1,4 +1,4 @@
--- `walk` is `walk` written into the list: a leaf, or the left child's part and then the right child's. The measure is the levels left.
+-- `walk` is the definition of its name written into the list: a leaf, or the left child's part and then the right child's. The measure is the levels left.
 use Prim.Native.Nat.{◌+◌, ◌-◌, ◌≤◌}
 use native.Mathlib.Omega.{arith}
 use mathlib.Core.Path.{refl, sym, ◌∙◌}

@@ -1,4 +1,4 @@
--- `at_leaf` is `at_leaf` written into the list, by the key's class; a key as a signed number comes back as it was sent (`to_z-of_z`).
+-- `at_leaf` is the definition of its name written into the list, by the key's class; a key as a signed number comes back as it was sent (`to_z-of_z`).
 use Prim.Native.Nat.{◌+◌, ◌-◌}
 use mathlib.Core.Path.{refl, ap}
 use mir.Syntax.{w32}

@@ -1,4 +1,4 @@
--- `children_ok` is `children_ok`: the kind chooses which test of the children counts.
+-- `children_ok` is the definition of its name: the kind chooses which test of the children counts.
 use mathlib.Core.Path.{refl}
 use Rattle.laws.specs.Choice.{pick}
 use Rattle.sound.specs.Sound.{children_ok}

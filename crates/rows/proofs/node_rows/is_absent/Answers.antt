@@ -1,4 +1,4 @@
--- `is_absent` is `is_absent`, on each way of the match.
+-- `is_absent` is the definition of its name, on each way of the match.
 use mathlib.Core.Path.{refl}
 use Rattle.sound.specs.Sound.{is_absent}
 use Rattle.rows.proofs.node_rows.is_absent.Goals as goal

@@ -1,4 +1,4 @@
--- `node_ok` is `node_ok`: its tests joined (`all-joined`), by the fields read.
+-- `node_ok` is the definition of its name: its tests joined (`all-joined`), by the fields read.
 use mathlib.Core.Path.{sym}
 use Rattle.laws.specs.Every.{joined, all-joined}
 use Rattle.sound.specs.Sound.{node_ok}

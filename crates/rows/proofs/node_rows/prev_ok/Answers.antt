@@ -1,4 +1,4 @@
--- `prev_ok` is `prev_ok`, on each way of the match.
+-- `prev_ok` is the definition of its name, on each way of the match.
 use mathlib.Core.Path.{refl}
 use Rattle.sound.specs.Sound.{prev_ok}
 use Rattle.rows.proofs.node_rows.prev_ok.Goals as goal

@@ -1,4 +1,4 @@
--- `rank_ok` is `rank_ok`, by computation.
+-- `rank_ok` is the definition of its name, by computation.
 use mathlib.Core.Path.{refl}
 use Rattle.sound.specs.Sound.{rank_ok}
 use Rattle.rows.proofs.node_rows.rank_ok.Goals as goal

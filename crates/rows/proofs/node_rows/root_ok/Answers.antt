@@ -1,4 +1,4 @@
--- `root_ok` is `root_ok`: its tests joined (`all-joined`), by the fields read.
+-- `root_ok` is the definition of its name: its tests joined (`all-joined`), by the fields read.
 use mathlib.Core.Path.{sym}
 use Rattle.laws.specs.Every.{joined, all-joined}
 use Rattle.sound.specs.Sound.{root_ok}

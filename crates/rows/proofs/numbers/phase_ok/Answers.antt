@@ -1,4 +1,4 @@
--- `phase_ok` is `phase_ok`, by computation.
+-- `phase_ok` is the definition of its name, by computation.
 use mathlib.Core.Path.{refl}
 use Rattle.sound.specs.Sound.{phase_ok}
 use Rattle.rows.proofs.numbers.phase_ok.Goals as goal

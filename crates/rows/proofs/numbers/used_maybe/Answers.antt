@@ -1,4 +1,4 @@
--- `used_maybe` is `used_maybe`, on each way of the match.
+-- `used_maybe` is the definition of its name, on each way of the match.
 use mathlib.Core.Path.{refl}
 use Rattle.sound.specs.Sound.{used_maybe}
 use Rattle.rows.proofs.numbers.used_maybe.Goals as goal

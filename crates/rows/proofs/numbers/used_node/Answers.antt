@@ -1,4 +1,4 @@
--- `used_node` is `used_node`, by computation.
+-- `used_node` is the definition of its name, by computation.
 use mathlib.Core.Path.{refl}
 use Rattle.sound.specs.Sound.{used_node}
 use Rattle.rows.proofs.numbers.used_node.Goals as goal

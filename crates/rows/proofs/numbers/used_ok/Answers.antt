@@ -1,4 +1,4 @@
--- `used_ok` is `used_ok`: its tests joined (`all-joined`).
+-- `used_ok` is the definition of its name: its tests joined (`all-joined`).
 use mathlib.Core.Path.{sym}
 use Rattle.laws.specs.Every.{joined, all-joined}
 use Rattle.sound.specs.Sound.{used_ok}

@@ -1,4 +1,4 @@
--- `used_record` is `used_record`, by computation.
+-- `used_record` is the definition of its name, by computation.
 use mathlib.Core.Path.{refl}
 use Rattle.sound.specs.Sound.{used_record}
 use Rattle.rows.proofs.numbers.used_record.Goals as goal

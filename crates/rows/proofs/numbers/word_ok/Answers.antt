@@ -1,4 +1,4 @@
--- `word_ok` is `word_ok`, by what `used_record` says.
+-- `word_ok` is the definition of its name, by what `used_record` says.
 use Rattle.sound.specs.Sound.{word_ok}
 use Rattle.rows.proofs.numbers.word_ok.Goals as goal
 

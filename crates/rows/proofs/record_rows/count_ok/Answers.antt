@@ -1,4 +1,4 @@
--- `count_ok` is `count_ok`, by what `is_internal` says.
+-- `count_ok` is the definition of its name, by what `is_internal` says.
 use Rattle.sound.specs.Sound.{count_ok}
 use Rattle.rows.proofs.record_rows.count_ok.Goals as goal
 

@@ -1,4 +1,4 @@
--- `dummy_ok` is `dummy_ok`: the words left to test say what all say (`Every`); they fall.
+-- `dummy_ok` is the definition of its name: the words left to test say what all say (`Every`); they fall.
 use mathlib.Core.Path.{◌≡◌}
 use lib.ListN.{get_or}
 use lib.Dec.{eqb}

@@ -1,4 +1,4 @@
--- `entry_ok` is `entry_ok`: its tests joined (`all-joined`).
+-- `entry_ok` is the definition of its name: its tests joined (`all-joined`).
 use mathlib.Core.Path.{sym}
 use Rattle.laws.specs.Every.{joined, all-joined}
 use Rattle.sound.specs.Sound.{entry_ok}

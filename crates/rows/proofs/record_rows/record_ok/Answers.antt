@@ -1,4 +1,4 @@
--- `record_ok` is `record_ok`: its tests joined (`all-joined`); the count's test decides whether the others are made.
+-- `record_ok` is the definition of its name: its tests joined (`all-joined`); the count's test decides whether the others are made.
 use mathlib.Core.Path.{refl}
 use Rattle.laws.specs.Every.{joined, all-joined}
 use Rattle.sound.specs.Sound.{record_ok}

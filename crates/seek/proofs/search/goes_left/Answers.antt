@@ -1,4 +1,4 @@
--- `goes_left` is `goes_left`, by the key read.
+-- `goes_left` is the definition of its name, by the key read.
 use mathlib.Core.Path.{refl}
 use Rattle.steps.specs.Search.{goes_left}
 use Rattle.seek.proofs.search.goes_left.Goals as goal

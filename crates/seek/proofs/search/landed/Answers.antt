@@ -1,4 +1,4 @@
--- `landed` is `landed`: the test of the child chooses the hand and the place.
+-- `landed` is the definition of its name: the test of the child chooses the hand and the place.
 use Rattle.laws.specs.Choice.{pick}
 use Rattle.steps.specs.Search.{landed}
 use Rattle.seek.proofs.search.landed.Goals as goal

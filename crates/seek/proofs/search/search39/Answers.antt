@@ -1,4 +1,4 @@
--- `search39` is `search39`: each match opens one `through`; the last way is `landed`.
+-- `search39` is the definition of its name: each match opens one `through`; the last way is `landed`.
 use mathlib.Core.Path.{refl}
 use Rattle.steps.specs.Search.{search39}
 use Rattle.steps.specs.Hand.{through}

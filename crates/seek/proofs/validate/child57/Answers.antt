@@ -1,4 +1,4 @@
--- `child57` is `child57`: both nodes are there, and the test of the child word chooses.
+-- `child57` is the definition of its name: both nodes are there, and the test of the child word chooses.
 use mathlib.Core.Path.{refl}
 use Rattle.laws.specs.Choice.{pick}
 use Rattle.steps.specs.Validate.{child57}

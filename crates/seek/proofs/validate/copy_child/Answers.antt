@@ -1,4 +1,4 @@
--- `copy_child` is `copy_child`: absent without a copy, else the child word as it is read.
+-- `copy_child` is the definition of its name: absent without a copy, else the child word as it is read.
 use mathlib.Core.Path.{refl}
 use Rattle.steps.specs.Validate.{copy_child}
 use Rattle.seek.proofs.validate.copy_child.Goals as goal

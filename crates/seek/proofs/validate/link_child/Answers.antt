@@ -1,4 +1,4 @@
--- `link_child` is `link_child`, call by call; a copy's child is `copy_child` of what `as_parent` lets through.
+-- `link_child` is the definition of its name, call by call; a copy's child is `copy_child` of what `as_parent` lets through.
 use mathlib.Core.Path.{refl}
 use Rattle.steps.specs.Validate.{link_child}
 use Rattle.seek.proofs.validate.link_child.Goals as goal

@@ -1,4 +1,4 @@
--- `link_left` is `link_left`, call by call.
+-- `link_left` is the definition of its name, call by call.
 use mathlib.Core.Path.{refl}
 use Rattle.steps.specs.Validate.{link_left}
 use Rattle.seek.proofs.validate.link_left.Goals as goal

@@ -1,4 +1,4 @@
--- `link_of` is `link_of`, step by step.
+-- `link_of` is the definition of its name, step by step.
 use Rattle.steps.specs.Validate.{link_of}
 use Rattle.seek.proofs.validate.link_of.Goals as goal
 

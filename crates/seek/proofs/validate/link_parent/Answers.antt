@@ -1,4 +1,4 @@
--- `link_parent` is `link_parent`, call by call.
+-- `link_parent` is the definition of its name, call by call.
 use mathlib.Core.Path.{refl}
 use Rattle.steps.specs.Validate.{link_parent}
 use Rattle.seek.proofs.validate.link_parent.Goals as goal

@@ -1,4 +1,4 @@
--- `parent_left` is `parent_left`: no side without a parent, else `goes_left`.
+-- `parent_left` is the definition of its name: no side without a parent, else `goes_left`.
 use mathlib.Core.Path.{refl}
 use Rattle.steps.specs.Validate.{parent_left}
 use Rattle.seek.proofs.validate.parent_left.Goals as goal

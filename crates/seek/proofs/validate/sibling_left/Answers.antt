@@ -1,4 +1,4 @@
--- `sibling_left` is `sibling_left`, by the two keys read.
+-- `sibling_left` is the definition of its name, by the two keys read.
 use mathlib.Core.Path.{refl}
 use Rattle.steps.specs.Validate.{sibling_left}
 use Rattle.seek.proofs.validate.sibling_left.Goals as goal

@@ -1,4 +1,4 @@
--- `state53` is `state53`: the test of FROZEN chooses.
+-- `state53` is the definition of its name: the test of FROZEN chooses.
 use mathlib.Core.Path.{refl}
 use Rattle.laws.specs.Choice.{pick}
 use Rattle.steps.specs.Validate.{state53}

@@ -1,4 +1,4 @@
--- `word52` is `word52`: crooked without a parent, else its word as it is read.
+-- `word52` is the definition of its name: crooked without a parent, else its word as it is read.
 use mathlib.Core.Path.{refl}
 use Rattle.steps.specs.Validate.{word52}
 use Rattle.seek.proofs.validate.word52.Goals as goal

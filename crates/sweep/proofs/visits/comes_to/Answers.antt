@@ -1,4 +1,4 @@
--- `comes_to` is `comes_to`: the same three tests in the same order, each turned into the definition's.
+-- `comes_to` is the definition of its name: the same three tests in the same order, each turned into the definition's.
 use borrow.Author.Tests.{lt-ltb, le-ltb}
 use Rattle.laws.specs.Choice.{pick}
 use Rattle.steps.specs.Scan.{comes_to}

@@ -1,4 +1,4 @@
--- `found_left` is `found_left`, case by case.
+-- `found_left` is the definition of its name, case by case.
 use mathlib.Core.Path.{refl}
 use Rattle.steps.specs.Turn.{found_left}
 use Rattle.turning.proofs.lists.found_left.Goals as goal

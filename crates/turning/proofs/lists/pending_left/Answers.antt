@@ -1,4 +1,4 @@
--- `pending_left` is `pending_left`, case by case.
+-- `pending_left` is the definition of its name, case by case.
 use mathlib.Core.Path.{refl}
 use Rattle.steps.specs.Turn.{pending_left}
 use Rattle.turning.proofs.lists.pending_left.Goals as goal

@@ -1,4 +1,4 @@
--- `step_on` is `step_on`: an idle worker is refused, a crooked decision too; else the decision is settled.
+-- `step_on` is the definition of its name: an idle worker is refused, a crooked decision too; else the decision is settled.
 use Rattle.tables.specs.World.{pending_at}
 use Rattle.steps.specs.Turn.{lists_of}
 use mathlib.Core.Path.{refl, sym, ◌∙◌}

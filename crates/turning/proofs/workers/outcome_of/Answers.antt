@@ -1,4 +1,4 @@
--- `outcome_of` is `outcome_of`, case by case.
+-- `outcome_of` is the definition of its name, case by case.
 use mathlib.Core.Path.{refl}
 use Rattle.steps.specs.Turn.{outcome_of}
 use Rattle.turning.proofs.workers.outcome_of.Goals as goal

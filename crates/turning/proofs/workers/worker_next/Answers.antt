@@ -1,4 +1,4 @@
--- `worker_next` is `worker_next`: both counts as the step leaves them, and the operation at its new place.
+-- `worker_next` is the definition of its name: both counts as the step leaves them, and the operation at its new place.
 use mathlib.Core.Path.{refl}
 use Rattle.steps.specs.Turn.{worker_next}
 use Rattle.turning.proofs.workers.worker_next.Goals as goal
