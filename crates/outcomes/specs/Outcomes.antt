@@ -29,7 +29,7 @@ pub record Listed : Type 0 where
   pub read_signed : OneAnswer unpack.read_signed.Reads.Post
   pub write_signed : OneOutcome pack.write_signed.Reads.Post (λ r x. with r x.1.0)
   -- laps
-  pub key_of-lap : OneAnswer laps.key_of_lap.Reads.Post
+  pub key_of_lap : OneAnswer laps.key_of_lap.Reads.Post
   pub lap_of_key : OneAnswer laps.lap_of_key.Reads.Post
   pub difference_of_pad : OneAnswer laps.difference_of_pad.Reads.Post
   -- tables
