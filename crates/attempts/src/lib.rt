@@ -4,19 +4,19 @@
 ghost use Rattle.std.specs.Prelude.{◌≡◌};
 ghost use Rattle.steps.specs.Attempt.{reaches182, validated, word66, grand66, word189, leaf_word};
 
-use shapes::{Answer, Decision, Key, Kind, Locals, MaybeNode, Place, Totals};
+use shapes::{Answer, Decision, Key, Kind, Locals, NodeNo, Place, Totals};
 use tables::ROOT;
 
 // With gp absent, or p the Root so that gp has no word, line 182 is crooked.
-fn reaches182(v: Locals, gp: MaybeNode) -> Decision
+fn reaches182(v: Locals, gp: Option<NodeNo>) -> Decision
     ensures { result ≡ reaches182 v gp }
 {
     let p = v.p;
-    let MaybeNode::At(_) = gp else {
-        return Decision::Crooked;
+    let Some(_) = gp else {
+        return None;
     };
     if fields::same_node(p, ROOT) {
-        Decision::Crooked
+        None
     } else {
         hand::go_to(v, Place::Sibling182)
     }
@@ -60,8 +60,8 @@ pub fn word66(totals: Totals, nodes: &[u32], kind: Kind, k: Key, v: Locals) -> D
 {
     let at = v.p;
     let pup = v.pup;
-    let MaybeNode::At(p) = fields::as_parent(nodes, MaybeNode::At(at)) else {
-        return Decision::Crooked;
+    let Some(p) = fields::as_parent(nodes, Some(at)) else {
+        return None;
     };
     let word = fields::update_at(nodes, p);
     if fields::same_update(word, pup) {
@@ -80,8 +80,8 @@ pub fn grand66(totals: Totals, nodes: &[u32], kind: Kind, k: Key, v: Locals) -> 
 {
     let at = v.gp;
     let gpup = v.gpup;
-    let MaybeNode::At(gp) = fields::as_parent(nodes, at) else {
-        return Decision::Crooked;
+    let Some(gp) = fields::as_parent(nodes, at) else {
+        return None;
     };
     let word = fields::update_at(nodes, gp);
     if fields::same_update(word, gpup) {

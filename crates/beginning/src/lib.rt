@@ -11,7 +11,7 @@ ghost use Rattle.boards.specs.Boards.{worker_of};
 use boards::{refuse, with_worker, worker_of};
 use checking::is_sound;
 use fields::blank;
-use shapes::{Board, Condition, Operation, Outcome, Refusal, Reply, Worker};
+use shapes::{Board, Operation, Refusal, Reply, Worker};
 
 // A worker at the beginning of its operation: found keys are counted anew, pending nodes stay.
 fn holding(k: Worker, o: Operation) -> Worker
@@ -19,7 +19,7 @@ fn holding(k: Worker, o: Operation) -> Worker
 {
     let hand = blank();
     Worker {
-        condition: Condition::Busy(o),
+        operation: Some(o),
         hand,
         pending: k.pending,
         found: 0,
@@ -28,17 +28,17 @@ fn holding(k: Worker, o: Operation) -> Worker
 
 // An idle worker begins; a busy one is refused.
 fn begun(board: Board, w: u32, o: Operation) -> Reply
-    ensures { result ≡ begun board w o (worker_of board w).condition }
+    ensures { result ≡ begun board w o (worker_of board w).operation }
 {
     let k = worker_of(board, w);
-    let condition = k.condition;
-    let Condition::Idle = condition else {
+    let operation = k.operation;
+    let None = operation else {
         return refuse(board, Refusal::Busy);
     };
     let totals = board.totals;
     Reply {
         board: with_worker(board, totals, w, holding(k, o)),
-        outcome: Outcome::Going,
+        outcome: Ok(None),
     }
 }
 

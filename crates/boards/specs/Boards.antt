@@ -1,11 +1,10 @@
 -- A worker of a board, a board with one worker anew, and a reply that refuses.
-use Rattle.std.specs.Prelude.{ℕ, get_or, set}
+use Rattle.std.specs.Prelude.{ℕ, get_or, set, Err}
 use Rattle.shapes.specs.declared.Board.{Board}
 use Rattle.shapes.specs.declared.Totals.{Totals}
 use Rattle.shapes.specs.declared.Worker.{Worker}
 use Rattle.shapes.specs.declared.Reply.{Reply}
 use Rattle.shapes.specs.declared.Refusal.{Refusal}
-use Rattle.shapes.specs.declared.Outcome.TheVariants.{Refused}
 use Rattle.tables.specs.World.{idle}
 
 -- past the last worker an idle one
@@ -17,4 +16,4 @@ with_worker b t w k = record { totals = t; workers = set b.workers w k }
 
 -- 01, 'Refusal numbers': all as before
 abbrev pub refused_by : Board → Refusal → Reply
-refused_by b r = record { board = b; outcome = Refused r }
+refused_by b r = record { board = b; outcome = Err r }

@@ -6,7 +6,7 @@ ghost use Rattle.tables.specs.World.{idle};
 ghost use Rattle.boards.specs.Boards.{worker_of, with_worker, refused_by};
 
 use fields::idle;
-use shapes::{Board, Outcome, Refusal, Reply, Totals, Worker};
+use shapes::{Board, Refusal, Reply, Totals, Worker};
 use tables::MOST_WORKERS;
 
 // Past the last worker there is an idle one.
@@ -54,6 +54,6 @@ pub fn refuse(board: Board, why: Refusal) -> Reply
 {
     Reply {
         board,
-        outcome: Outcome::Refused(why),
+        outcome: Err(why),
     }
 }

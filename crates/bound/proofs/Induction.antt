@@ -1,11 +1,10 @@
 -- What holds after every history: the induction over its calls. And so the bound.
-use Rattle.std.specs.Prelude.{ℕ, suc, ◌<◌, ◌≡◌, false, ◌&&◌}
+use Rattle.std.specs.Prelude.{ℕ, suc, ◌<◌, ◌≡◌, false, ◌&&◌, None, Ok}
 use Rattle.std.proofs.Common.{◌∙◌, arith}
 use mathlib.Core.List.{List, [], ◌∷◌}
 use Rattle.laws.specs.Choice.{pick, pick_false, fork}
 use Rattle.shapes.specs.declared.Place.TheVariants as place
 use Rattle.shapes.specs.declared.Operation.TheVariants.{Insert, Delete, Find, Scan}
-use Rattle.shapes.specs.declared.Outcome.TheVariants.{Going}
 use Rattle.tables.specs.World.{World, totals_of}
 use Rattle.tables.specs.Fresh.{Left, sizes_ok, lent_ok, fresh_of}
 use Rattle.steps.specs.Turn.{turn_of, insert_of, delete_of, find_of, scan_of}
@@ -18,9 +17,9 @@ use Rattle.bound.specs.Starts.{own_count, insert-begins, delete-begins, find-beg
 use Rattle.bound.specs.Turns.{turn_reached}
 use Rattle.bound.proofs.Scans.{accepted, going, answers}
 
-fresh-made : (n m p : ℕ) (lent : World) → (fresh_of n m p lent).outcome ≡ Going → Reached p (fresh_of n m p lent).world (λ w. 0)
+fresh-made : (n m p : ℕ) (lent : World) → (fresh_of n m p lent).outcome ≡ Ok None → Reached p (fresh_of n m p lent).world (λ w. 0)
 unfolding fresh_of
-fresh-made n m p lent = fork (λ (l : Left). l.outcome ≡ Going → Reached p l.world (λ w. 0)) (sizes_ok n m p && lent_ok n m p lent)
+fresh-made n m p lent = fork (λ (l : Left). l.outcome ≡ Ok None → Reached p l.world (λ w. 0)) (sizes_ok n m p && lent_ok n m p lent)
     (λ fits e. fresh_reached n m p lent fits)
     (λ _ e. let z : ◌≡◌ {A = ℕ} 0 1 = cc in absurd (omega arith))
 

@@ -1,5 +1,5 @@
 -- A scan that has read its phase, where what holds after every history holds: its next turn is not refused, and its turns are bounded.
-use Rattle.std.specs.Prelude.{ℕ, suc, ◌+◌, ◌*◌, ◌≤◌, ◌<◌, refl, false}
+use Rattle.std.specs.Prelude.{ℕ, suc, ◌+◌, ◌*◌, ◌≤◌, ◌<◌, refl, false, None, Some, Ok}
 use Rattle.std.proofs.Math.Path.{◌≡◌, ap, subst}
 use Rattle.std.proofs.Common.{sym, ◌∙◌, arith, lt-ltb}
 use Rattle.laws.specs.Choice.{pick_true}
@@ -9,10 +9,8 @@ use Rattle.shapes.specs.declared.Operation.TheVariants.{Scan}
 use Rattle.shapes.specs.declared.Next.{Next}
 use Rattle.shapes.specs.declared.Next.TheVariants as next
 use Rattle.shapes.specs.declared.Step.{Step}
-use Rattle.shapes.specs.declared.Decision.{Decision}
-use Rattle.shapes.specs.declared.Decision.TheVariants as decision
 use Rattle.shapes.specs.declared.Answer.{Answer}
-use Rattle.shapes.specs.declared.Outcome.TheVariants.{Said}
+use Rattle.shapes.specs.Outcomes.{Decision}
 use Rattle.tables.specs.World.{World, totals_of, tables_of, worker_at}
 use Rattle.tables.specs.Fresh.{Left}
 use Rattle.sound.specs.Agree.{says-sound}
@@ -63,8 +61,8 @@ module _ (p : ℕ) (s : World) (T : ℕ → ℕ) (R : Reached p s T) (w i : ℕ)
 
   settle-accepted : (e : Decision) → D e → is_refused (settle s w k o e).outcome ≡ false
   unfolding settle
-  settle-accepted decision.Crooked g = absurd g
-  settle-accepted (decision.Go d) g = not_refused d.next
+  settle-accepted None g = absurd g
+  settle-accepted (Some d) g = not_refused d.next
 
   pub accepted : is_refused (turn_of s w).outcome ≡ false
   accepted = ap (λ (l : Left). is_refused l.outcome) turn_is ∙ settle-accepted next_step moves
@@ -76,18 +74,18 @@ module _ (p : ℕ) (s : World) (T : ℕ → ℕ) (R : Reached p s T) (w i : ℕ)
 
   -- at an answer
   Answered : Answer → Left → Type 0
-  Answered a l = l.outcome ≡ Said a → suc (T w) ≤ most_turns l.world i
+  Answered a l = l.outcome ≡ Ok (Some a) → suc (T w) ≤ most_turns l.world i
 
-  next_answers : (a : Answer) (d : Step) (n : Next) → Onward w (tables_of s) R.ghost k.hand.seq.0 (waiting_at s w) k.found (T w) d n → outcome_of n ≡ Said a → suc (T w) ≤ most_turns (settled s w k o d) i
+  next_answers : (a : Answer) (d : Step) (n : Next) → Onward w (tables_of s) R.ghost k.hand.seq.0 (waiting_at s w) k.found (T w) d n → outcome_of n ≡ Ok (Some a) → suc (T w) ≤ most_turns (settled s w k o d) i
   unfolding outcome_of
   next_answers a d (next.At q) g e = let z : ◌≡◌ {A = ℕ} 0 1 = cc in absurd (omega arith)
   next_answers a d (next.Answers b) g e = rw (← most_is (settled s w k o d) i, ← P.phase) (unfold settled in g.1)
 
   settle_answers : (a : Answer) (e : Decision) → D e → Answered a (settle s w k o e)
   unfolding Answered settle
-  settle_answers a decision.Crooked g = absurd g
-  settle_answers a (decision.Go d) g = next_answers a d d.next g
+  settle_answers a None g = absurd g
+  settle_answers a (Some d) g = next_answers a d d.next g
 
-  pub answers : (a : Answer) → (turn_of s w).outcome ≡ Said a → suc (T w) ≤ most_turns (turn_of s w).world i
+  pub answers : (a : Answer) → (turn_of s w).outcome ≡ Ok (Some a) → suc (T w) ≤ most_turns (turn_of s w).world i
   unfolding Answered
   answers a = subst (Answered a) (sym turn_is) (settle_answers a next_step moves)

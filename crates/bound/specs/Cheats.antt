@@ -1,9 +1,8 @@
 -- 01, 'How tight the contracts are': demand 3 is stated over demand 2's turns, and its count is the accepted turns in the history. So none of these meets both.
-use Rattle.std.specs.Prelude.{[], ℕ, zero, suc, ◌≡◌, Bool, true, false, List, ◌∷◌}
-use Rattle.shapes.specs.declared.Outcome.{Outcome}
-use Rattle.shapes.specs.declared.Outcome.TheVariants.{Going, Said, Refused}
+use Rattle.std.specs.Prelude.{[], ℕ, zero, suc, ◌≡◌, Bool, true, false, List, ◌∷◌, None, Some, Ok, Err}
 use Rattle.shapes.specs.declared.Answer.{Answer}
 use Rattle.shapes.specs.declared.Answer.TheVariants.{Keys}
+use Rattle.shapes.specs.Outcomes.{Outcome}
 use Rattle.tables.specs.World.{World}
 use Rattle.tables.specs.Fresh.{Left}
 use Rattle.steps.specs.Turn.{turn_of}
@@ -17,15 +16,15 @@ outcomes zero = []
 outcomes (suc k) = last_outcome (fresh 16 4) (scans (suc k) (inserts5 18 [])) ∷ outcomes k
 
 unfoldable pub answered : Outcome → Bool
-answered Going = false
-answered (Said a) = true
-answered (Refused r) = false
+answered (Ok None) = false
+answered (Ok (Some a)) = true
+answered (Err r) = false
 
 pub record Cheats : Type 0 where
   -- a scan that stops early: P7's scan has its answer in its eighth turn and in no earlier one, the last turn first
-  pub eighth : outcomes 8 ≡ Said (Keys 1) ∷ Going ∷ Going ∷ Going ∷ Going ∷ Going ∷ Going ∷ Going ∷ []
+  pub eighth : outcomes 8 ≡ Ok (Some (Keys 1)) ∷ (Ok None) ∷ (Ok None) ∷ (Ok None) ∷ (Ok None) ∷ (Ok None) ∷ (Ok None) ∷ (Ok None) ∷ []
   -- so a turn that answers before, as in the third, is not demand 2's, whatever it answers
-  pub stops_early : (t : World → ℕ → Left) → ((s : World) (w : ℕ) → t s w ≡ turn_of s w) → (a : Answer) → (t (after (fresh 16 4) (scans 2 (inserts5 18 []))) 1).outcome ≡ Said a → ⊥
+  pub stops_early : (t : World → ℕ → Left) → ((s : World) (w : ℕ) → t s w ≡ turn_of s w) → (a : Answer) → (t (after (fresh 16 4) (scans 2 (inserts5 18 []))) 1).outcome ≡ Ok (Some a) → ⊥
   -- a made-up count, whatever it is made of besides what the calls came to: two histories that ask the same of worker 1
   pub made_up_count : (count : ℕ → ℕ) → ((k : ℕ) (h : List Call) → turns_of (fresh 16 4) 1 (scans k h) ≡ count k) → ⊥
   -- a turn that alters nothing: the scan's second turn moves Counter

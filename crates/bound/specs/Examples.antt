@@ -1,9 +1,8 @@
 -- Worked examples: what the definitions of the statement give for P6 to P9, and for a scan that comes within one turn of its bound.
-use Rattle.std.specs.Prelude.{[], ℕ, ◌≡◌, List, ◌∷◌, ◌++◌, replicate, pos}
+use Rattle.std.specs.Prelude.{[], ℕ, ◌≡◌, List, ◌∷◌, ◌++◌, replicate, pos, None, Some, Ok}
 use Rattle.shapes.specs.declared.Key.{Key}
-use Rattle.shapes.specs.declared.Outcome.{Outcome}
-use Rattle.shapes.specs.declared.Outcome.TheVariants.{Going, Said}
 use Rattle.shapes.specs.declared.Answer.TheVariants.{Keys}
+use Rattle.shapes.specs.Outcomes.{Outcome}
 use Rattle.tables.specs.Names.{key_of}
 use Rattle.tables.specs.World.{World}
 use Rattle.steps.specs.Play.{fresh}
@@ -35,7 +34,7 @@ helps_delete = turns 15 1 (turns 22 0 (delete 0 (key 5) ∷ inserts5 18 (scans 2
 
 -- what the last call came to
 unfoldable pub last_outcome : World → List Call → Outcome
-last_outcome s [] = Going
+last_outcome s [] = Ok None
 last_outcome s (c ∷ h) = (asked (after s h) c).outcome
 
 -- the last outcome, the turns of worker 1, I for phase 0, and the bound
@@ -51,7 +50,7 @@ seen h =
     record { outcome = last_outcome s h; turns = turns_of s 1 h; inner = inner_nodes (after s h) 0; most = most_turns (after s h) 0 }
 
 abbrev pub keys_after : ℕ → ℕ → ℕ → ℕ → Seen
-keys_after found turns inner most = record { outcome = Said (Keys found); turns = turns; inner = inner; most = most }
+keys_after found turns inner most = record { outcome = Ok (Some (Keys found)); turns = turns; inner = inner; most = most }
 
 pub record Examples : Type 0 where
   pub p6 : seen (scans 5 []) ≡ keys_after 0 5 1 18

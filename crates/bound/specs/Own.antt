@@ -1,5 +1,5 @@
 -- A worker's own turn, whatever it holds: what it knows next.
-use Rattle.std.specs.Prelude.{ℕ, suc, ◌≡◌, List}
+use Rattle.std.specs.Prelude.{ℕ, suc, ◌≡◌, List, None, Some}
 use Rattle.std.proofs.Math.Path.{refl}
 use Rattle.shapes.specs.declared.Key.{Key}
 use Rattle.shapes.specs.declared.Worker.{Worker}
@@ -11,8 +11,7 @@ use Rattle.shapes.specs.declared.Operation.TheVariants.{Insert, Delete, Find, Sc
 use Rattle.shapes.specs.declared.Next.{Next}
 use Rattle.shapes.specs.declared.Next.TheVariants as next
 use Rattle.shapes.specs.declared.Step.{Step}
-use Rattle.shapes.specs.declared.Decision.{Decision}
-use Rattle.shapes.specs.declared.Decision.TheVariants as decision
+use Rattle.shapes.specs.Outcomes.{Decision}
 use Rattle.tables.specs.World.{Tables}
 use Rattle.sound.specs.Meaning.{TablesSound}
 use Rattle.steps.specs.Scan.{Lists}
@@ -35,8 +34,8 @@ use Rattle.bound.specs.Knows.{OperationKnows, Knows}
 module _ (w : ℕ) (s : Tables) (h : TablesSound s) (G : Ghost) (H : Holds (view s) G) (root : Linked G 0) (versions : (i : ℕ) → Version (view s) i) (k : Worker) (us : List ℕ) (T : ℕ) where
   -- what worker w, that is k, with us pending and after T turns, is to know after a decision
   abbrev pub Moves : Operation → Decision → Type 0
-  Moves o decision.Crooked = Unit {0}
-  Moves o (decision.Go d) = Gives w (view s) (view (apply d.effect s)) G (λ G'. Knows w (view (apply d.effect s)) G' (waits_next us d.pending) (suc T) (worker_next k o d d.next))
+  Moves o None = Unit {0}
+  Moves o (Some d) = Gives w (view s) (view (apply d.effect s)) G (λ G'. Knows w (view (apply d.effect s)) G' (waits_next us d.pending) (suc T) (worker_next k o d d.next))
 
   -- the operation of an attempt
   abbrev held : Kind → Key → Place → Operation
@@ -52,8 +51,8 @@ module _ (w : ℕ) (s : Tables) (h : TablesSound s) (G : Ghost) (H : Holds (view
   attempt_knows o x q d (next.Answers a) X G' known = refl
 
   attempt_next : (o : Kind) (x : Key) (q : Place) (e : Decision) → Decides w s G o x e → Moves (held o x q) e
-  attempt_next o x q decision.Crooked g = tt
-  attempt_next o x q (decision.Go d) g = gives_more (λ G' _ _. attempt_knows o x q d d.next (view (apply d.effect s)) G') g
+  attempt_next o x q None g = tt
+  attempt_next o x q (Some d) g = gives_more (λ G' _ _. attempt_knows o x q d d.next (view (apply d.effect s)) G') g
 
   scan-onward : (a b : Key) (q : Place) (d : Step) (n : Next) → Onward w s G k.hand.seq.0 us k.found T d n
       → Gives w (view s) (view (apply d.effect s)) G (λ G'. Knows w (view (apply d.effect s)) G' (waits_next us d.pending) (suc T) (worker_next k (Scan a b q) d n))
@@ -62,8 +61,8 @@ module _ (w : ℕ) (s : Tables) (h : TablesSound s) (G : Ghost) (H : Holds (view
   scan-onward a b q d (next.Answers x) g = gives_more (λ G' _ _ known. refl) g.0
 
   scan_next : (a b : Key) (q : Place) (e : Decision) → Decided w s G k.hand.seq.0 us k.found T e → Moves (Scan a b q) e
-  scan_next a b q decision.Crooked g = tt
-  scan_next a b q (decision.Go d) g = scan-onward a b q d d.next g
+  scan_next a b q None g = tt
+  scan_next a b q (Some d) g = scan-onward a b q d d.next g
 
   attempt_own : (o : Kind) (x : Key) (q : Place) → AttemptKnows w (view s) G o x k.hand q → Moves (held o x q) (attempt s o x k.hand q)
   attempt_own o x q known = attempt_next o x q (attempt s o x k.hand q) (attempt_decides w s h G H root versions o x k.hand q known)

@@ -1,5 +1,5 @@
 -- A start keeps what holds after every history: nothing shared moves, and its worker knows what its first place needs.
-use Rattle.std.specs.Prelude.{ℕ, ◌<◌, ◌≡◌, refl, ◌≢◌, [], eqb, ltb}
+use Rattle.std.specs.Prelude.{ℕ, ◌<◌, ◌≡◌, refl, ◌≢◌, [], eqb, ltb, Option, None, Some, Ok}
 use Rattle.std.proofs.Common.{sym, subst, arith, length-set, ltb-true, eq-eqb, ne_eqb}
 use Rattle.std.proofs.Math.Seq.{get_or-set_same, get_or-set_other}
 use Rattle.laws.specs.Choice.{pick, pick_true, pick_false, fork}
@@ -9,9 +9,6 @@ use Rattle.shapes.specs.declared.Worker.{Worker}
 use Rattle.shapes.specs.declared.Place.TheVariants as place
 use Rattle.shapes.specs.declared.Operation.{Operation}
 use Rattle.shapes.specs.declared.Operation.TheVariants.{Insert, Delete, Find, Scan}
-use Rattle.shapes.specs.declared.Condition.{Condition}
-use Rattle.shapes.specs.declared.Condition.TheVariants.{Idle, Busy}
-use Rattle.shapes.specs.declared.Outcome.TheVariants.{Going}
 use Rattle.shapes.specs.declared.Refusal.{Refusal}
 use Rattle.shapes.specs.declared.Refusal.TheVariants as refusal
 use Rattle.tables.specs.World.{World, totals_of, tables_of, blank, idle, worker_at}
@@ -58,9 +55,9 @@ module _ (p : ℕ) (s : World) (T : ℕ → ℕ) (R : Reached p s T) (w : ℕ) (
   unfolding is_refused pick
   refused_same r h = R
 
-  module _ (in_p : w < (totals_of s).p) (rests : (worker_at s w).condition ≡ Idle) where
+  module _ (in_p : w < (totals_of s).p) (rests : (worker_at s w).operation ≡ None) where
     abbrev new : Worker
-    new = record { condition = Busy o; hand = blank; pending = (worker_at s w).pending; found = 0 }
+    new = record { operation = Some o; hand = blank; pending = (worker_at s w).pending; found = 0 }
 
     none_pending : (worker_at s w).pending ≡ 0
     none_pending = subst (ConditionKnows w (view (tables_of s)) R.ghost (worker_at s w).hand (worker_at s w).pending (waiting_at s w) (worker_at s w).found (T w)) rests (R.knows w in_p)
@@ -85,7 +82,7 @@ module _ (p : ℕ) (s : World) (T : ℕ → ℕ) (R : Reached p s T) (w : ℕ) (
     other_knows : (u : ℕ) → u < (totals_of s).p → u ≢ w → Told u (pick (eqb w u) 0 (T u)) (worker_at (started s w (worker_at s w) o) u)
     other_knows u l ne = rw (other_worker u ne, other_count w u 0 (T u) ne) (R.knows u l)
 
-    started_reached : Started (record { world = started s w (worker_at s w) o; outcome = Going })
+    started_reached : Started (record { world = started s w (worker_at s w) o; outcome = (Ok None) })
     unfolding started is_refused pick
     started_reached h = record {
       sound = h;
@@ -98,13 +95,13 @@ module _ (p : ℕ) (s : World) (T : ℕ → ℕ) (R : Reached p s T) (w : ℕ) (
       knows = λ u l. by_equal u w (λ e. rw e own_knows) (λ ne. other_knows u l ne);
     }
 
-  begins_reached : w < (totals_of s).p → (c : Condition) → (worker_at s w).condition ≡ c → Started (begin s w (worker_at s w) o c)
+  begins_reached : w < (totals_of s).p → (c : Option Operation) → (worker_at s w).operation ≡ c → Started (begin s w (worker_at s w) o c)
   unfolding begin
-  begins_reached l Idle e = started_reached l e
-  begins_reached l (Busy old) e = refused_same refusal.Busy
+  begins_reached l None e = started_reached l e
+  begins_reached l (Some old) e = refused_same refusal.Busy
 
   pub start_reached : Started (start_of s w o)
   unfolding start_of
   start_reached = fork Started (sound_of s)
-      (λ _. fork Started (ltb w (totals_of s).p) (λ l. begins_reached (ltb-true _ _ l) (worker_at s w).condition refl) (λ _. refused_same refusal.Worker))
+      (λ _. fork Started (ltb w (totals_of s).p) (λ l. begins_reached (ltb-true _ _ l) (worker_at s w).operation refl) (λ _. refused_same refusal.Worker))
       (λ _. refused_same refusal.Table)

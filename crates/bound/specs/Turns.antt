@@ -1,5 +1,5 @@
 -- A turn keeps what holds after every history.
-use Rattle.std.specs.Prelude.{ℕ, suc, ◌+◌, ◌*◌, ◌<◌, ◌≡◌, ◌≢◌, List, false, eqb, ltb, get_or}
+use Rattle.std.specs.Prelude.{ℕ, suc, ◌+◌, ◌*◌, ◌<◌, ◌≡◌, ◌≢◌, List, false, eqb, ltb, get_or, Option, None, Some}
 use Rattle.std.proofs.Math.Path.{refl, subst}
 use Rattle.std.proofs.Common.{sym, ap, ◌∙◌, arith, length-set, ltb-true}
 use Rattle.std.proofs.Math.Seq.{get_or-set_same, get_or-set_other}
@@ -8,15 +8,12 @@ use Rattle.laws.specs.Changed.{by_equal}
 use Rattle.shapes.specs.declared.Totals.{Totals}
 use Rattle.shapes.specs.declared.Worker.{Worker}
 use Rattle.shapes.specs.declared.Operation.{Operation}
-use Rattle.shapes.specs.declared.Condition.{Condition}
-use Rattle.shapes.specs.declared.Condition.TheVariants.{Idle, Busy}
 use Rattle.shapes.specs.declared.Next.{Next}
 use Rattle.shapes.specs.declared.Next.TheVariants as next
 use Rattle.shapes.specs.declared.Step.{Step}
-use Rattle.shapes.specs.declared.Decision.{Decision}
-use Rattle.shapes.specs.declared.Decision.TheVariants as decision
 use Rattle.shapes.specs.declared.Refusal.{Refusal}
 use Rattle.shapes.specs.declared.Refusal.TheVariants as refusal
+use Rattle.shapes.specs.Outcomes.{Decision}
 use Rattle.tables.specs.World.{Tables, World, totals_of, tables_of, idle, worker_at, spot}
 use Rattle.tables.specs.Fresh.{Left, refused}
 use Rattle.sound.specs.Sound.{sound_of}
@@ -59,7 +56,7 @@ module _ (p : ℕ) (s : World) (T : ℕ → ℕ) (R : Reached p s T) (w : ℕ) w
   unfolding is_refused pick
   refused_same r h = R
 
-  module _ (in_p : w < (totals_of s).p) (o : Operation) (holds : (worker_at s w).condition ≡ Busy o) (d : Step) (decided : decide (tables_of s) (lists_of s w (worker_at s w)) o (worker_at s w).hand ≡ decision.Go d) where
+  module _ (in_p : w < (totals_of s).p) (o : Operation) (holds : (worker_at s w).operation ≡ Some o) (d : Step) (decided : decide (tables_of s) (lists_of s w (worker_at s w)) o (worker_at s w).hand ≡ Some d) where
     abbrev k : Worker
     k = worker_at s w
 
@@ -136,18 +133,18 @@ module _ (p : ℕ) (s : World) (T : ℕ → ℕ) (R : Reached p s T) (w : ℕ) w
     settled_reached : Turned (record { world = after; outcome = outcome_of d.next })
     settled_reached h = subst (λ b. Reached p after (λ u. pick b (T u) (counts u))) (sym (not_refused d.next)) (unfold pick in moved_reached h)
 
-  settle_reached : w < (totals_of s).p → (o : Operation) → (worker_at s w).condition ≡ Busy o → (e : Decision) → decide (tables_of s) (lists_of s w (worker_at s w)) o (worker_at s w).hand ≡ e → Turned (settle s w (worker_at s w) o e)
+  settle_reached : w < (totals_of s).p → (o : Operation) → (worker_at s w).operation ≡ Some o → (e : Decision) → decide (tables_of s) (lists_of s w (worker_at s w)) o (worker_at s w).hand ≡ e → Turned (settle s w (worker_at s w) o e)
   unfolding settle
-  settle_reached l o holds decision.Crooked e = refused_same refusal.Crooked
-  settle_reached l o holds (decision.Go d) e = settled_reached l o holds d e
+  settle_reached l o holds None e = refused_same refusal.Crooked
+  settle_reached l o holds (Some d) e = settled_reached l o holds d e
 
-  on_reached : w < (totals_of s).p → (c : Condition) → (worker_at s w).condition ≡ c → Turned (step_on s w (worker_at s w) c)
+  on_reached : w < (totals_of s).p → (c : Option Operation) → (worker_at s w).operation ≡ c → Turned (step_on s w (worker_at s w) c)
   unfolding step_on
-  on_reached l Idle e = refused_same refusal.Idle
-  on_reached l (Busy o) e = settle_reached l o e (decide (tables_of s) (lists_of s w (worker_at s w)) o (worker_at s w).hand) refl
+  on_reached l None e = refused_same refusal.Idle
+  on_reached l (Some o) e = settle_reached l o e (decide (tables_of s) (lists_of s w (worker_at s w)) o (worker_at s w).hand) refl
 
   pub turn_reached : Turned (turn_of s w)
   unfolding turn_of step_of
   turn_reached = fork Turned (sound_of s)
-      (λ _. fork Turned (ltb w (totals_of s).p) (λ l. on_reached (ltb-true _ _ l) (worker_at s w).condition refl) (λ _. refused_same refusal.Worker))
+      (λ _. fork Turned (ltb w (totals_of s).p) (λ l. on_reached (ltb-true _ _ l) (worker_at s w).operation refl) (λ _. refused_same refusal.Worker))
       (λ _. refused_same refusal.Table)

@@ -1,9 +1,7 @@
 // What is set by hand: totals, a worker's condition, one field of its hand, its counts.
 use crate::line::{Words, signed};
 use crate::places::place_of;
-use shapes::{
-    Board, Condition, Locals, MaybeNode, NodeNo, Operation, Phase, RecordNo, Totals, Update, Worker,
-};
+use shapes::{Board, Locals, NodeNo, Operation, Phase, RecordNo, Totals, Update, Worker};
 use tables::MOST_WORKERS;
 
 fn new_if(chosen: bool, new: u32, old: u32) -> u32 {
@@ -27,10 +25,10 @@ fn with_total(t: Totals, field: u32, v: u32) -> Totals {
 
 // ---- a worker
 
-fn gp_after(gp: MaybeNode, field: u32, v: u32) -> MaybeNode {
+fn gp_after(gp: Option<NodeNo>, field: u32, v: u32) -> Option<NodeNo> {
     match field {
-        1 => MaybeNode::Absent,
-        2 => MaybeNode::At(NodeNo(v)),
+        1 => None,
+        2 => Some(NodeNo(v)),
         _ => gp,
     }
 }
@@ -68,20 +66,20 @@ fn with_field(h: Locals, field: u32, v: u32) -> Locals {
 }
 
 // Kinds as in a schedule; 0 is idle.
-fn condition_of(kind: u32, place: u32, a: i32, b: i32) -> Condition {
+fn condition_of(kind: u32, place: u32, a: i32, b: i32) -> Option<Operation> {
     let q = place_of(place);
     let low = fields::key_of(a);
     let high = fields::key_of(b);
     match kind {
-        1 => Condition::Busy(Operation::Insert(low, q)),
-        2 => Condition::Busy(Operation::Delete(low, q)),
-        3 => Condition::Busy(Operation::Find(low, q)),
-        4 => Condition::Busy(Operation::Scan(low, high, q)),
-        _ => Condition::Idle,
+        1 => Some(Operation::Insert(low, q)),
+        2 => Some(Operation::Delete(low, q)),
+        3 => Some(Operation::Find(low, q)),
+        4 => Some(Operation::Scan(low, high, q)),
+        _ => None,
     }
 }
 
-fn condition_after(words: Words, old: Condition) -> Condition {
+fn condition_after(words: Words, old: Option<Operation>) -> Option<Operation> {
     if words.command == b'o' {
         let low = signed(words.fourth);
         return condition_of(words.second, words.third, low, signed(words.fifth));
@@ -98,10 +96,10 @@ fn hand_after(words: Words, old: Locals) -> Locals {
 
 fn worker_after(words: Words, k: Worker) -> Worker {
     let counts = words.command == b'c';
-    let condition = k.condition;
+    let operation = k.operation;
     let hand = k.hand;
     Worker {
-        condition: condition_after(words, condition),
+        operation: condition_after(words, operation),
         hand: hand_after(words, hand),
         pending: new_if(counts, words.second, k.pending),
         found: new_if(counts, words.third, k.found),

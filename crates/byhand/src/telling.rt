@@ -53,9 +53,9 @@ fn say_answer(rt: &impl Print, answer: Answer) {
 
 pub fn say_outcome(rt: &impl Print, outcome: Outcome) {
     match outcome {
-        Outcome::Going => say(rt, b" going"),
-        Outcome::Said(answer) => say_answer(rt, answer),
-        Outcome::Refused(why) => say_refusal(rt, why),
+        Ok(None) => say(rt, b" going"),
+        Ok(Some(answer)) => say_answer(rt, answer),
+        Err(why) => say_refusal(rt, why),
     }
 }
 

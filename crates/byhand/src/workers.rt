@@ -1,16 +1,16 @@
 // Everything kept on the board, stirred into one number.
 use crate::digest::stir;
 use crate::places::place_code;
-use shapes::{Board, Condition, Key, Locals, MaybeNode, Operation, Place, Totals, Update, Worker};
+use shapes::{Board, Key, Locals, NodeNo, Operation, Place, Totals, Update, Worker};
 
 fn stir_update(sum: u32, u: Update) -> u32 {
     stir(stir(sum, u.mark), u.info.0)
 }
 
-fn stir_maybe(sum: u32, m: MaybeNode) -> u32 {
+fn stir_maybe(sum: u32, m: Option<NodeNo>) -> u32 {
     match m {
-        MaybeNode::Absent => stir(sum, 0),
-        MaybeNode::At(x) => stir(stir(sum, 1), x.0),
+        None => stir(sum, 0),
+        Some(x) => stir(stir(sum, 1), x.0),
     }
 }
 
@@ -39,17 +39,17 @@ fn stir_operation(sum: u32, o: Operation) -> u32 {
     }
 }
 
-fn stir_condition(sum: u32, c: Condition) -> u32 {
+fn stir_condition(sum: u32, c: Option<Operation>) -> u32 {
     match c {
-        Condition::Idle => stir(sum, 0),
-        Condition::Busy(o) => stir_operation(sum, o),
+        None => stir(sum, 0),
+        Some(o) => stir_operation(sum, o),
     }
 }
 
 fn stir_worker(sum: u32, k: Worker) -> u32 {
-    let condition = k.condition;
+    let operation = k.operation;
     let hand = k.hand;
-    let all = stir_hand(stir_condition(sum, condition), hand);
+    let all = stir_hand(stir_condition(sum, operation), hand);
     stir(stir(all, k.pending), k.found)
 }
 

@@ -1,7 +1,5 @@
 -- Where room, phases, keys and lists come to an end: what P6, P7 and P10 leave open.
-use Rattle.std.specs.Prelude.{ℕ, ◌≡◌, refl, true, ◌&&◌, List, [], ◌∷◌, take, ℤ, pos, negsuc}
-use Rattle.shapes.specs.declared.Condition.TheVariants.{Idle}
-use Rattle.shapes.specs.declared.Outcome.TheVariants.{Said}
+use Rattle.std.specs.Prelude.{ℕ, ◌≡◌, refl, true, ◌&&◌, List, [], ◌∷◌, take, ℤ, pos, negsuc, None, Some, Ok}
 use Rattle.shapes.specs.declared.Answer.TheVariants.{Yes, No, Keys, NoRoom, NoPhase}
 use Rattle.tables.specs.World.{World, tables_of, blank, idle, worker_at}
 use Rattle.sound.specs.Sound.{sound_of}
@@ -62,28 +60,28 @@ counts_of s = (worker_at s 0).pending ∷ (worker_at s 0).found ∷ []
 
 pub record Corners : Type 0 where
   -- M = 2: the insert of 5 takes the one record beside the dummy
-  pub no_record : ends 0 0 (insert 0 (pos 3) (done 0 (insert 0 (pos 5) (fresh 16 2)))) ≡ shown (Said NoRoom) 11 6 2 0
+  pub no_record : ends 0 0 (insert 0 (pos 3) (done 0 (insert 0 (pos 5) (fresh 16 2)))) ≡ shown (Ok (Some NoRoom)) 11 6 2 0
   -- 'no phase, when a scan's increment finds Counter at 65,535, and only then, Counter kept'
-  pub no_phase : ends 0 0 (scans 0 (pos 0) (pos 9) (at_phase 65535)) ≡ shown (Said NoPhase) 2 3 1 65535
+  pub no_phase : ends 0 0 (scans 0 (pos 0) (pos 9) (at_phase 65535)) ≡ shown (Ok (Some NoPhase)) 2 3 1 65535
   pub no_phase_tables : same_tables (tables_of (done 0 (scans 0 (pos 0) (pos 9) (at_phase 65535)))) (tables_of (at_phase 65535)) ≡ true
   pub no_phase_worker : worker_at (done 0 (scans 0 (pos 0) (pos 9) (at_phase 65535))) 0 ≡ idle
-  pub last_phase : ends 0 0 (scans 0 (pos 0) (pos 9) (at_phase 65534)) ≡ shown (Said (Keys 0)) 5 3 1 65535
+  pub last_phase : ends 0 0 (scans 0 (pos 0) (pos 9) (at_phase 65534)) ≡ shown (Ok (Some (Keys 0))) 5 3 1 65535
   -- it is the increment that counts, not the read of line 130
-  pub which_counts : ends 1 0 both_scan ≡ shown (Said NoPhase) 2 3 1 65535
+  pub which_counts : ends 1 0 both_scan ≡ shown (Ok (Some NoPhase)) 2 3 1 65535
   -- the others need no phase
-  pub others_go_on : ends 0 0 (insert 0 (pos 5) (at_phase 65535)) ≡ shown (Said Yes) 18 6 2 65535
+  pub others_go_on : ends 0 0 (insert 0 (pos 5) (at_phase 65535)) ≡ shown (Ok (Some Yes)) 18 6 2 65535
   -- 'keys 2,147,483,647 and −2,147,483,648 insert, find and delete'
-  pub greatest_in : ends 0 0 (insert 0 greatest (fresh 16 8)) ≡ shown (Said Yes) 18 6 2 0
-  pub greatest_found : ends 0 0 (find 0 greatest with_greatest) ≡ shown (Said Yes) 11 6 2 0
-  pub greatest_out : ends 0 0 (delete 0 greatest with_greatest) ≡ shown (Said Yes) 34 7 3 0
-  pub greatest_gone : ends 0 0 (find 0 greatest without_greatest) ≡ shown (Said No) 6 7 3 0
-  pub least_in : ends 0 0 (insert 0 least without_greatest) ≡ shown (Said Yes) 18 10 4 0
-  pub least_found : ends 0 0 (find 0 least with_least) ≡ shown (Said Yes) 11 10 4 0
-  pub least_out : ends 0 0 (delete 0 least with_least) ≡ shown (Said Yes) 34 11 5 0
-  pub least_gone : ends 0 0 (find 0 least without_least) ≡ shown (Said No) 6 11 5 0
+  pub greatest_in : ends 0 0 (insert 0 greatest (fresh 16 8)) ≡ shown (Ok (Some Yes)) 18 6 2 0
+  pub greatest_found : ends 0 0 (find 0 greatest with_greatest) ≡ shown (Ok (Some Yes)) 11 6 2 0
+  pub greatest_out : ends 0 0 (delete 0 greatest with_greatest) ≡ shown (Ok (Some Yes)) 34 7 3 0
+  pub greatest_gone : ends 0 0 (find 0 greatest without_greatest) ≡ shown (Ok (Some No)) 6 7 3 0
+  pub least_in : ends 0 0 (insert 0 least without_greatest) ≡ shown (Ok (Some Yes)) 18 10 4 0
+  pub least_found : ends 0 0 (find 0 least with_least) ≡ shown (Ok (Some Yes)) 11 10 4 0
+  pub least_out : ends 0 0 (delete 0 least with_least) ≡ shown (Ok (Some Yes)) 34 11 5 0
+  pub least_gone : ends 0 0 (find 0 least without_least) ≡ shown (Ok (Some No)) 6 11 5 0
   pub both_keys : found_of 2 (done 0 (scans 0 least greatest with_both)) ≡ greatest ∷ least ∷ []
   -- 'found keys are listed in that order, so highest first': the Root, 5, 8 and 11 three turns each, then the left of 11 and of 8
-  pub highest_first : ends 0 0 (scans 0 (pos 0) (pos 9) three) ≡ shown (Said (Keys 3)) 16 12 4 1
+  pub highest_first : ends 0 0 (scans 0 (pos 0) (pos 9) three) ≡ shown (Ok (Some (Keys 3))) 16 12 4 1
   pub highest_first_keys : found_of 3 scanned ≡ pos 7 ∷ pos 5 ∷ pos 3 ∷ []
   -- 'pending are the nodes whose right child has been read and whose left is still to be read': 8 and 11 after 14 turns, and the key 7 found
   pub pending_nodes : pending_of 2 (took 14 0 (scans 0 (pos 0) (pos 9) three)) ≡ 8 ∷ 11 ∷ []
@@ -95,12 +93,12 @@ pub record Corners : Type 0 where
   pub start_forgets : counts_of (find 0 (pos 5) scanned) ≡ 0 ∷ 0 ∷ []
   pub start_keeps : found_of 3 (find 0 (pos 5) scanned) ≡ pos 7 ∷ pos 5 ∷ pos 3 ∷ []
   -- of pending 01 says no such thing: by hand, an idle worker with one pending, and a start
-  pub start_keeps_pending : counts_of (find 0 (pos 5) (with_worker 0 (record { condition = Idle; hand = blank; pending = 1; found = 0 }) three)) ≡ 1 ∷ 0 ∷ []
+  pub start_keeps_pending : counts_of (find 0 (pos 5) (with_worker 0 (record { operation = None; hand = blank; pending = 1; found = 0 }) three)) ≡ 1 ∷ 0 ∷ []
   -- a scan of 4 to 6: right of 8 (4 ≤ 5 ≤ 6), left of 11 (6 < 7) alone, then the left of 8; the key 5, written over the 7
-  pub narrow : ends 0 0 (scans 0 (pos 4) (pos 6) scanned) ≡ shown (Said (Keys 1)) 15 12 4 2
+  pub narrow : ends 0 0 (scans 0 (pos 4) (pos 6) scanned) ≡ shown (Ok (Some (Keys 1))) 15 12 4 2
   pub narrow_keys : found_of 3 (done 0 (scans 0 (pos 4) (pos 6) scanned)) ≡ pos 5 ∷ pos 5 ∷ pos 3 ∷ []
   -- 'a scan with a greater than b walks as any other and finds nothing': left of the Root and of 5, right of 8 and of 11
-  pub backward : ends 0 0 (scans 0 (pos 9) (pos 0) three) ≡ shown (Said (Keys 0)) 14 12 4 1
+  pub backward : ends 0 0 (scans 0 (pos 9) (pos 0) three) ≡ shown (Ok (Some (Keys 0))) 14 12 4 1
   -- nobody asked on the way; at the ends the tables are sound
   pub sound : sound_of scanned && (sound_of without_least && sound_of (done 0 both_scan)) ≡ true
 

@@ -1,9 +1,7 @@
 -- The tables made by hand on which a turn is crooked, a worker put at a place of them, and what it is for a turn to be crooked.
-use Rattle.std.specs.Prelude.{ℕ, ◌≡◌, refl, true, ◌&&◌, replicate, take, pos}
+use Rattle.std.specs.Prelude.{ℕ, ◌≡◌, refl, true, ◌&&◌, replicate, take, pos, Option, None, Some, Ok, Err}
 use mathlib.Core.List.{List, [], ◌∷◌, map, flatten}
 use Rattle.shapes.specs.declared.Locals.{Locals}
-use Rattle.shapes.specs.declared.MaybeNode.{MaybeNode}
-use Rattle.shapes.specs.declared.MaybeNode.TheVariants.{At}
 use Rattle.shapes.specs.declared.HelpStep.{HelpStep}
 use Rattle.shapes.specs.declared.HelpStep.TheVariants.{Counter111, Abort112, Try113, State114, Child123, Commit124, State125, Abort126, State127}
 use Rattle.shapes.specs.declared.Back.TheVariants.{Own}
@@ -11,8 +9,8 @@ use Rattle.shapes.specs.declared.Place.{Place}
 use Rattle.shapes.specs.declared.Place.TheVariants as place
 use Rattle.shapes.specs.declared.Operation.TheVariants.{Insert, Delete, Scan}
 use Rattle.shapes.specs.declared.Refusal.TheVariants as refusal
-use Rattle.shapes.specs.declared.Outcome.{Outcome}
-use Rattle.shapes.specs.declared.Outcome.TheVariants.{Going, Refused}
+use Rattle.shapes.specs.Outcomes.{Outcome}
+use Rattle.shapes.specs.declared.NodeNo.{NodeNo}
 use Rattle.tables.specs.Names.{node, record_no, phase, key_of}
 use Rattle.tables.specs.World.{World, idle}
 use Rattle.tables.specs.Fresh.{refused}
@@ -75,10 +73,10 @@ later x s = with_node x phase_word 1 (with_counter 1 s)
 -- ---- what is in hand: gp 5, p 8, l 7 (key 5), sibling 6, of which node 3 may be the copy
 
 abbrev pub below : Locals
-below = hand (At (node 5)) 8 7
+below = hand (Some (node 5)) 8 7
 
 -- EXECUTE's test i with these gp, p, sibling, copy and record
-abbrev pub tests : ℕ → MaybeNode → ℕ → ℕ → ℕ → ℕ → Locals
+abbrev pub tests : ℕ → Option NodeNo → ℕ → ℕ → ℕ → ℕ → Locals
 tests i gp p sibling copy r = with_i (with_taken (with_sibling (hand gp p 7) (node sibling)) (node copy) (record_no r)) i
 
 -- HELP's step b on record r
@@ -98,9 +96,9 @@ pub record Crooks (s : World) : Type 0 where
   pub leaves : turn_of s 0 ≡ refused s refusal.Crooked
 
 abbrev pub GoesOn : World → Type 0
-GoesOn s = (turn_of s 0).outcome ≡ Going
+GoesOn s = (turn_of s 0).outcome ≡ Ok None
 
-pub crooked : {s : World} → (turn_of s 0).outcome ≡ Refused refusal.Crooked → Crooks s
+pub crooked : {s : World} → (turn_of s 0).outcome ≡ Err refusal.Crooked → Crooks s
 crooked {s} e = record { leaves = turn_keeps s 0 refusal.Crooked e }
 
 -- the tables made by hand are those that an evening leaves

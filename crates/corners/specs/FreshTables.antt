@@ -1,11 +1,10 @@
 -- 01, 'Fresh tables' and refusal 2, on tables lent full of nines (Play.lent: P = 3, each three places longer than it need be).
-use Rattle.std.specs.Prelude.{ℕ, ◌≡◌, refl, [], ◌∷◌, replicate, take, drop, pos}
+use Rattle.std.specs.Prelude.{ℕ, ◌≡◌, refl, [], ◌∷◌, replicate, take, drop, pos, None, Ok, Err}
 use Rattle.shapes.specs.declared.Place.TheVariants as place
 use Rattle.shapes.specs.declared.Operation.TheVariants.{Find}
 use Rattle.shapes.specs.declared.Worker.{Worker}
 use Rattle.shapes.specs.declared.Refusal.TheVariants as refusal
-use Rattle.shapes.specs.declared.Outcome.{Outcome}
-use Rattle.shapes.specs.declared.Outcome.TheVariants.{Going, Refused}
+use Rattle.shapes.specs.Outcomes.{Outcome}
 use Rattle.tables.specs.Names.{key_of}
 use Rattle.tables.specs.World.{World, blank, idle, worker_at}
 use Rattle.tables.specs.Fresh.{refused, fresh_of}
@@ -51,12 +50,12 @@ pub record FreshTables : Type 0 where
   pub worker2 : worker_at made 2 ≡ idle
   pub beyond_workers : worker_at made 3 ≡ old
   -- refusal 2: N, M or P outside the sizes, one too few and one too many
-  pub sizes : asked 8 2 1 ∷ asked 1024 512 3 ∷ [] ≡ Going ∷ Going ∷ []
-  pub too_few : asked 7 2 1 ∷ asked 8 1 1 ∷ asked 8 2 0 ∷ [] ≡ Refused refusal.Size ∷ Refused refusal.Size ∷ Refused refusal.Size ∷ []
-  pub too_many : asked 1025 2 1 ∷ asked 8 513 1 ∷ asked 8 2 9 ∷ [] ≡ Refused refusal.Size ∷ Refused refusal.Size ∷ Refused refusal.Size ∷ []
+  pub sizes : asked 8 2 1 ∷ asked 1024 512 3 ∷ [] ≡ Ok None ∷ (Ok None) ∷ []
+  pub too_few : asked 7 2 1 ∷ asked 8 1 1 ∷ asked 8 2 0 ∷ [] ≡ Err refusal.Size ∷ Err refusal.Size ∷ Err refusal.Size ∷ []
+  pub too_many : asked 1025 2 1 ∷ asked 8 513 1 ∷ asked 8 2 9 ∷ [] ≡ Err refusal.Size ∷ Err refusal.Size ∷ Err refusal.Size ∷ []
   -- or tables lent too short for them
-  pub whole : short 80 44 24 24 ≡ Going
-  pub too_short : short 79 44 24 24 ∷ short 80 43 24 24 ∷ short 80 44 23 24 ∷ short 80 44 24 23 ∷ [] ≡ Refused refusal.Size ∷ Refused refusal.Size ∷ Refused refusal.Size ∷ Refused refusal.Size ∷ []
+  pub whole : short 80 44 24 24 ≡ Ok None
+  pub too_short : short 79 44 24 24 ∷ short 80 43 24 24 ∷ short 80 44 23 24 ∷ short 80 44 24 23 ∷ [] ≡ Err refusal.Size ∷ Err refusal.Size ∷ Err refusal.Size ∷ Err refusal.Size ∷ []
   -- all as before
   pub kept : fresh_of 7 2 1 (lent 8 2) ≡ refused (lent 8 2) refusal.Size
 

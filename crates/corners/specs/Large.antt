@@ -1,9 +1,8 @@
 -- A thousand turns on the largest tables, N = 1,024, M = 512, P = 8.
-use Rattle.std.specs.Prelude.{ℕ, ◌≡◌, refl, Bool, true, List, [], ◌∷◌, take, ℤ, pos}
+use Rattle.std.specs.Prelude.{ℕ, ◌≡◌, refl, Bool, true, List, [], ◌∷◌, take, ℤ, pos, None, Some, Ok}
 use Rattle.shapes.specs.declared.Place.TheVariants as place
 use Rattle.shapes.specs.declared.Operation.{Operation}
 use Rattle.shapes.specs.declared.Operation.TheVariants.{Insert, Delete, Find, Scan}
-use Rattle.shapes.specs.declared.Outcome.TheVariants.{Going, Said}
 use Rattle.shapes.specs.declared.Answer.TheVariants.{Yes}
 use Rattle.tables.specs.Names.{key_of}
 use Rattle.tables.specs.World.{worker_at}
@@ -38,7 +37,7 @@ scans = Scan (key_of (pos 0)) (key_of (pos 9)) place.Counter130
 -- 1, 2, 4, 3 and 5 come; each of eight workers finds all five and scans; all but 5 go
 unfoldable pub thousand : Ran
 thousand =
-    let a : Ran = record { world = exactly 1024 512 8; outcome = Going; turns = 0 } in
+    let a : Ran = record { world = exactly 1024 512 8; outcome = Ok None; turns = 0 } in
     let b = does 7 (inserts 1 ∷ inserts 2 ∷ inserts 4 ∷ inserts 3 ∷ inserts 5 ∷ []) a in
     let c = each_does (0 ∷ 1 ∷ 2 ∷ 3 ∷ 4 ∷ 5 ∷ 6 ∷ 7 ∷ []) (finds 1 ∷ finds 2 ∷ finds 4 ∷ finds 3 ∷ finds 5 ∷ scans ∷ []) b in
     does 0 (deletes 1 ∷ deletes 2 ∷ deletes 4 ∷ deletes 3 ∷ []) c
@@ -53,6 +52,6 @@ unfoldable pub tell : Ran → Told
 tell r = record { shown = show r; keys = take 5 r.world.found; sound = sound_of r.world }
 
 -- 3 + 5 × 3 + 4 nodes, 1 + 5 + 4 records, 8 phases; worker 0's starts have set its count to 0 and kept the places behind it
-pub large : tell thousand ≡ record { shown = shown (Said Yes) 1000 22 10 8; keys = pos 5 ∷ pos 4 ∷ pos 3 ∷ pos 2 ∷ pos 1 ∷ []; sound = true }
+pub large : tell thousand ≡ record { shown = shown (Ok (Some Yes)) 1000 22 10 8; keys = pos 5 ∷ pos 4 ∷ pos 3 ∷ pos 2 ∷ pos 1 ∷ []; sound = true }
 unfolding steps_opened show does each_does thousand tell
 large = refl

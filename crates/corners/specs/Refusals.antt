@@ -1,11 +1,10 @@
 -- 01, 'Refusal numbers': 1, then 3, then 4 or 5, each leaving all as before. A call that could be refused twice is refused for the first.
-use Rattle.std.specs.Prelude.{◌≡◌, refl, pos}
+use Rattle.std.specs.Prelude.{◌≡◌, refl, pos, Err}
 use Rattle.shapes.specs.Numbers.{refusal_number}
 use Rattle.shapes.specs.declared.Key.{Key}
 use Rattle.shapes.specs.declared.Place.TheVariants as place
 use Rattle.shapes.specs.declared.Operation.TheVariants.{Insert, Delete, Find, Scan}
 use Rattle.shapes.specs.declared.Refusal.TheVariants as refusal
-use Rattle.shapes.specs.declared.Outcome.TheVariants.{Refused}
 use Rattle.tables.specs.Names.{key_of}
 use Rattle.tables.specs.World.{World, blank}
 use Rattle.tables.specs.Fresh.{refused}
@@ -54,7 +53,7 @@ pub record Refusals : Type 0 where
   -- 5, a turn on an idle worker
   pub idle_turn : turn_of some_busy 1 ≡ refused some_busy refusal.Idle
   -- a run that is refused takes no turn
-  pub idle_run : show (run_of 7 some_busy 1) ≡ shown (Refused refusal.Idle) 0 3 1 0
+  pub idle_run : show (run_of 7 some_busy 1) ≡ shown (Err refusal.Idle) 0 3 1 0
   -- the numbers
   pub number1 : refusal_number refusal.Table ≡ 1
   pub number3 : refusal_number refusal.Worker ≡ 3

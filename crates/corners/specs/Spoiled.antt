@@ -1,6 +1,5 @@
 -- 01, 'Sound means', of sizes, nodes and records: each clause broken alone on tables that are otherwise sound; and what may hold anything.
-use Rattle.std.specs.Prelude.{ℕ, ◌≡◌, refl, Bool, true, false, List, [], ◌∷◌, map, replicate, pos}
-use Rattle.shapes.specs.declared.MaybeNode.TheVariants.{At}
+use Rattle.std.specs.Prelude.{ℕ, ◌≡◌, refl, Bool, true, false, List, [], ◌∷◌, map, replicate, pos, Some}
 use Rattle.shapes.specs.declared.Place.TheVariants as place
 use Rattle.shapes.specs.declared.Key.{Key}
 use Rattle.shapes.specs.declared.Operation.TheVariants.{Find}
@@ -206,8 +205,8 @@ pub record Anything : Type 0 where
   -- the third and fourth node of a record that lists two
   pub behind_list : sound_of (with_record 1 (entry_node 3) 99 (with_record 1 (entry_info 3) 99 (with_record 1 (entry_node 4) 99 sound))) ≡ true
   -- a worker from P on
-  pub behind_p : sound_of (with_worker 3 (busy (Find five place.Left144) (hand (At (node 99)) 99 99) 99 99) sound) ≡ true
-  pub within_p : sound_of (with_worker 2 (busy (Find five place.Left144) (hand (At (node 99)) 99 99) 99 99) sound) ≡ false
+  pub behind_p : sound_of (with_worker 3 (busy (Find five place.Left144) (hand (Some (node 99)) 99 99) 99 99) sound) ≡ true
+  pub within_p : sound_of (with_worker 2 (busy (Find five place.Left144) (hand (Some (node 99)) 99 99) 99 99) sound) ≡ false
   -- tables longer than they need be: those of Play are, by three places
   pub longer : sound_of (fresh 8 2) ≡ true
 

@@ -1,7 +1,6 @@
 -- 01, 'Sound means', of workers: each clause broken alone on tables that are otherwise sound.
-use Rattle.std.specs.Prelude.{ℕ, ◌≡◌, refl, Bool, true, false, List, [], ◌∷◌, ◌++◌, map, replicate}
+use Rattle.std.specs.Prelude.{ℕ, ◌≡◌, refl, Bool, true, false, List, [], ◌∷◌, ◌++◌, map, replicate, None, Some}
 use Rattle.shapes.specs.declared.Locals.{Locals}
-use Rattle.shapes.specs.declared.MaybeNode.TheVariants.{Absent, At}
 use Rattle.shapes.specs.declared.Link.TheVariants.{Leaf64, Sibling183}
 use Rattle.shapes.specs.declared.LinkStep.TheVariants.{Word52}
 use Rattle.shapes.specs.declared.HelpStep.TheVariants.{Counter111, Freeze117, Frozen119}
@@ -25,7 +24,7 @@ handed v = with_worker 1 (busy (Insert five place.Search39) v 0 0) sound
 
 -- worker 1 with these counts, idle
 abbrev pub counted : ℕ → ℕ → World
-counted pending found = with_worker 1 (record { condition = idle.condition; hand = blank; pending = pending; found = found }) sound
+counted pending found = with_worker 1 (record { operation = idle.operation; hand = blank; pending = pending; found = found }) sound
 
 -- worker 1 at place i of EXECUTE's or HELP's list; HELP is of record r
 abbrev pub listing : Operation → ℕ → ℕ → World
@@ -56,10 +55,10 @@ at o l = soundness (map (λ q. placed (o q)) l)
 
 pub record SpoiledWorkers : Type 0 where
   -- 'all numbers in .. workers refer to used ones': node 7 and record 3 are not used
-  pub nodes : soundness (map handed (hand (At (node 7)) 0 0 ∷ hand Absent 7 0 ∷ hand Absent 0 7 ∷ with_sibling blank (node 7) ∷ with_taken blank (node 7) (record_no 0) ∷ [])) ≡ replicate 5 false
+  pub nodes : soundness (map handed (hand (Some (node 7)) 0 0 ∷ hand None 7 0 ∷ hand None 0 7 ∷ with_sibling blank (node 7) ∷ with_taken blank (node 7) (record_no 0) ∷ [])) ≡ replicate 5 false
   pub records : soundness (map handed (map (λ f. f (update 0 (record_no 3))) (with_gpup blank ∷ with_pup blank ∷ with_lup blank ∷ with_sup blank ∷ with_up blank ∷ []))) ≡ replicate 5 false
   pub record3 : sound_of (handed (holding (record_no 3))) ≡ false
-  pub used : sound_of (handed (with_taken (with_sibling (hand (At (node 5)) 6 6) (node 6)) (node 6) (record_no 2))) ≡ true
+  pub used : sound_of (handed (with_taken (with_sibling (hand (Some (node 5)) 6 6) (node 6)) (node 6) (record_no 2))) ≡ true
   -- 'no phase of a .. worker exceeds Counter'
   pub phase_beyond : sound_of (handed (with_seq blank 1)) ≡ false
   -- 'pending and found counts are at most N', and pending nodes are used

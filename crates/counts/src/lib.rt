@@ -40,8 +40,8 @@ pub fn started_counts(outcome: Outcome, w: u32, counts: [u64; 8]) -> [u64; 8]
     ensures { result ≡ started_counts outcome w counts }
 {
     match outcome {
-        Outcome::Going => with_count(counts, w, 0),
-        Outcome::Said(_) => counts,
-        Outcome::Refused(_) => counts,
+        Ok(None) => with_count(counts, w, 0),
+        Ok(Some(_)) => counts,
+        Err(_) => counts,
     }
 }

@@ -17,7 +17,7 @@ use boards::worker_of;
 use fields::{between, count_at};
 use homes::{attempt_home, in_list, listed, scan_home};
 use rows::{phase_ok, used_maybe, used_node, used_record, word_ok};
-use shapes::{Board, Condition, HelpStep, Kind, Locals, Operation, Place, Totals};
+use shapes::{Board, HelpStep, Kind, Locals, Operation, Place, Totals};
 
 // All numbers in hand, at whatever place.
 fn hand_ok(t: Totals, v: Locals) -> bool
@@ -84,12 +84,12 @@ fn attempt_ok(rs: &[u32], v: Locals, n: u32, o: Kind, q: Place) -> bool
     attempt_home(o, q) & within_ok(rs, listed(o), v, n, q)
 }
 
-fn condition_ok(rs: &[u32], v: Locals, n: u32, c: Condition) -> bool
+fn condition_ok(rs: &[u32], v: Locals, n: u32, c: Option<Operation>) -> bool
     ensures { result ≡ condition_ok rs.now v n c }
 {
     match c {
-        Condition::Idle => true,
-        Condition::Busy(o) => match o {
+        None => true,
+        Some(o) => match o {
             Operation::Insert(_, q) => attempt_ok(rs, v, n, Kind::Insert, q),
             Operation::Delete(_, q) => attempt_ok(rs, v, n, Kind::Delete, q),
             Operation::Find(_, q) => attempt_ok(rs, v, n, Kind::Find, q),
@@ -103,10 +103,10 @@ fn worker_ok(board: Board, records: &[u32], pending: &[u32], w: u32) -> bool
 {
     let k = worker_of(board, w);
     let hand = k.hand;
-    let condition = k.condition;
+    let operation = k.operation;
     lists_ok(board, pending, w)
         & hand_ok(board.totals, hand)
-        & condition_ok(records, hand, k.pending, condition)
+        & condition_ok(records, hand, k.pending, operation)
 }
 
 // Every worker.

@@ -40,12 +40,12 @@ fn decide_attempt(
         Place::State98 => execute::state98(records, kind, v),
         Place::Freeze103 => execute::freeze103(nodes, records, v),
         Place::Help(b, c) => scanning::decide_help(totals, nodes, records, v, b, c),
-        Place::Counter130 => Decision::Crooked,
-        Place::Bump131 => Decision::Crooked,
-        Place::Word139 => Decision::Crooked,
-        Place::State140 => Decision::Crooked,
-        Place::Child141 => Decision::Crooked,
-        Place::Left144 => Decision::Crooked,
+        Place::Counter130 => None,
+        Place::Bump131 => None,
+        Place::Word139 => None,
+        Place::State140 => None,
+        Place::Child141 => None,
+        Place::Left144 => None,
     }
 }
 

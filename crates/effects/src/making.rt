@@ -5,7 +5,7 @@ ghost use Rattle.tables.specs.Names.{finite};
 ghost use Rattle.steps.specs.Apply.{top_of, three_nodes, copy_of, taken_record};
 
 use fields::{key_value, kind_at, new_node, new_record, rank_at, unfilled};
-use shapes::{Key, MaybeNode, NodeNo, Phase, Rank, RecordNo};
+use shapes::{Key, NodeNo, Phase, Rank, RecordNo};
 use tables::{ABORT, INTERNAL, LEAF};
 
 fn finite(k: Key) -> Rank
@@ -30,7 +30,7 @@ fn top_of(
 )
     ensures { nodes.new ≡ top_of nodes.old new sibling x k b q l }
 {
-    let prev = MaybeNode::At(l);
+    let prev = Some(l);
     if (k.0 as u64) < key_value(b) {
         new_node(nodes, x, INTERNAL, b, q, prev, new, sibling);
     } else {
@@ -48,8 +48,8 @@ pub fn three_nodes(nodes: &mut [u32], u: u32, k: Key, l: NodeNo, q: Phase)
     let sibling = NodeNo(u + 1);
     let a = finite(k);
     let b = rank_at(nodes, l);
-    new_node(nodes, new, LEAF, a, q, MaybeNode::Absent, none, none);
-    new_node(nodes, sibling, LEAF, b, q, MaybeNode::Absent, none, none);
+    new_node(nodes, new, LEAF, a, q, None, none, none);
+    new_node(nodes, sibling, LEAF, b, q, None, none, none);
     top_of(nodes, new, sibling, NodeNo(u + 2), k, b, q, l);
 }
 
@@ -60,7 +60,7 @@ pub fn copy_of(nodes: &mut [u32], u: u32, sibling: NodeNo, p: NodeNo, q: Phase)
     let kind = kind_at(nodes, sibling);
     let b = rank_at(nodes, sibling);
     let none = NodeNo(0);
-    new_node(nodes, NodeNo(u), kind, b, q, MaybeNode::At(p), none, none);
+    new_node(nodes, NodeNo(u), kind, b, q, Some(p), none, none);
 }
 
 pub fn taken_record(records: &mut [u32], u: u32)

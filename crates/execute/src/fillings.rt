@@ -3,7 +3,7 @@ ghost use Rattle.std.specs.Prelude.{◌≡◌};
 ghost use Rattle.tables.specs.Records.{entry};
 ghost use Rattle.steps.specs.Execute.{insert_filling, delete_filling, fill_insert, fill_delete, fills};
 
-use shapes::{Decision, Effect, Entry, Filling, Kind, Locals, MaybeNode, NodeNo, Place, Update};
+use shapes::{Decision, Effect, Entry, Filling, Kind, Locals, NodeNo, Place, Update};
 use tables::{DELETE_LISTS, FLAG, INSERT_LISTS, MARK, ROOT};
 
 // nodes[i], its old word, and MARK where it is to be marked.
@@ -71,8 +71,8 @@ fn fill_insert(nodes: &[u32], v: Locals) -> Decision
 {
     let p = v.p;
     let info = v.info;
-    let MaybeNode::At(_) = fields::as_parent(nodes, MaybeNode::At(p)) else {
-        return Decision::Crooked;
+    let Some(_) = fields::as_parent(nodes, Some(p)) else {
+        return None;
     };
     let filling = insert_filling(v);
     let next = hand::holding_record(info);
@@ -88,11 +88,11 @@ fn fill_delete(nodes: &[u32], v: Locals) -> Decision
     let info = v.info;
     let made = v.made;
     let sibling = v.sibling;
-    let MaybeNode::At(g) = fields::as_parent(nodes, gp) else {
-        return Decision::Crooked;
+    let Some(g) = fields::as_parent(nodes, gp) else {
+        return None;
     };
-    let MaybeNode::At(_) = fields::as_parent(nodes, MaybeNode::At(p)) else {
-        return Decision::Crooked;
+    let Some(_) = fields::as_parent(nodes, Some(p)) else {
+        return None;
     };
     let copied = fields::kind_at(nodes, made);
     let kind = fields::kind_at(nodes, sibling);
@@ -101,7 +101,7 @@ fn fill_delete(nodes: &[u32], v: Locals) -> Decision
         let next = hand::holding_record(info);
         hand::decide_to(Effect::Fill(info, filling), next, Place::Freeze103)
     } else {
-        Decision::Crooked
+        None
     }
 }
 
@@ -112,6 +112,6 @@ pub fn fills(nodes: &[u32], o: Kind, v: Locals) -> Decision
     match o {
         Kind::Insert => fill_insert(nodes, v),
         Kind::Delete => fill_delete(nodes, v),
-        Kind::Find => Decision::Crooked,
+        Kind::Find => None,
     }
 }

@@ -48,7 +48,7 @@ pub fn frozen97(nodes: &[u32], records: &[u32], o: Kind, v: Locals) -> Decision
     if fields::fillable(records, info) {
         fills(nodes, o, v)
     } else {
-        Decision::Crooked
+        None
     }
 }
 
@@ -88,6 +88,6 @@ pub fn freeze103(nodes: &[u32], records: &[u32], v: Locals) -> Decision
             hand::retry()
         }
     } else {
-        Decision::Crooked
+        None
     }
 }

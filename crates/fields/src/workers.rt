@@ -2,7 +2,7 @@
 ghost use Rattle.std.specs.Prelude.{◌≡◌};
 ghost use Rattle.tables.specs.World.{blank, idle};
 
-use shapes::{Condition, Locals, MaybeNode, Phase, Update, Worker};
+use shapes::{Locals, Phase, Update, Worker};
 use tables::{DUMMY, FLAG, ROOT};
 
 // Nothing in hand.
@@ -16,7 +16,7 @@ pub fn blank() -> Locals
     let x = ROOT;
     Locals {
         seq: Phase(0),
-        gp: MaybeNode::Absent,
+        gp: None,
         p: x,
         l: x,
         gpup: u,
@@ -36,7 +36,7 @@ pub fn idle() -> Worker
 {
     let hand = blank();
     Worker {
-        condition: Condition::Idle,
+        operation: None,
         hand,
         pending: 0,
         found: 0,

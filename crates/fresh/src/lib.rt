@@ -11,7 +11,7 @@ ghost use Rattle.tables.specs.Fresh.{sizes_ok, lent_ok, cleared, fresh_nodes, fr
 use crate::clearing::{clear, clear_keys};
 use crate::making::{fresh_board, fresh_nodes, fresh_records};
 use fields::{lent_ok, sizes_ok};
-use shapes::{Board, Outcome, Refusal, Reply};
+use shapes::{Board, Refusal, Reply};
 
 // The sizes and the lent tables are as 01 asks, whatever the board.
 fn asked_ok(
@@ -68,12 +68,12 @@ pub fn fresh(
     if !asked_ok(n, m, p, nodes, records, pending, found) {
         return Reply {
             board,
-            outcome: Outcome::Refused(Refusal::Size),
+            outcome: Err(Refusal::Size),
         };
     }
     fresh_lists(n, m, p, nodes, records, pending, found);
     Reply {
         board: fresh_board(n, m, p, board),
-        outcome: Outcome::Going,
+        outcome: Ok(None),
     }
 }

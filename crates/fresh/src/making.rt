@@ -5,7 +5,7 @@ ghost use Rattle.tables.specs.Fresh.{fresh_nodes, fresh_records, fresh_board};
 
 use crate::clearing::{clear, clear_workers};
 use fields::{new_node, new_record, unfilled};
-use shapes::{Board, MaybeNode, NodeNo, Phase, Rank, Totals};
+use shapes::{Board, NodeNo, Phase, Rank, Totals};
 use tables::{
     ABORT, DUMMY, FRESH_NODES, FRESH_RECORDS, INTERNAL, LEAF, NODE_WIDTH, RECORD_WIDTH, ROOT,
 };
@@ -29,7 +29,7 @@ pub fn fresh_nodes(n: u32, ns: &mut [u32])
         INTERNAL,
         infinite(2),
         Phase(0),
-        MaybeNode::Absent,
+        None,
         NodeNo(1),
         NodeNo(2),
     );
@@ -39,7 +39,7 @@ pub fn fresh_nodes(n: u32, ns: &mut [u32])
         LEAF,
         infinite(1),
         Phase(0),
-        MaybeNode::Absent,
+        None,
         none,
         none,
     );
@@ -49,7 +49,7 @@ pub fn fresh_nodes(n: u32, ns: &mut [u32])
         LEAF,
         infinite(2),
         Phase(0),
-        MaybeNode::Absent,
+        None,
         none,
         none,
     );

@@ -4,19 +4,16 @@ ghost use Rattle.steps.specs.Hand.{does, goes, says, retries, helps};
 
 use crate::making::holding_record;
 use fields::blank;
-use shapes::{
-    Answer, Back, Decision, Effect, FoundChange, HelpStep, Locals, Next, PendingChange, Place,
-    RecordNo, Step,
-};
+use shapes::{Answer, Back, Decision, Effect, HelpStep, Locals, Next, PendingChange, Place, RecordNo, Step};
 
 pub fn decide_to(e: Effect, v: Locals, q: Place) -> Decision
     ensures { result ≡ does e v q }
 {
-    Decision::Go(Step {
+    Some(Step {
         effect: e,
         hand: v,
         pending: PendingChange::Keep,
-        found: FoundChange::Keep,
+        found: None,
         next: Next::At(q),
     })
 }
@@ -30,11 +27,11 @@ pub fn go_to(v: Locals, q: Place) -> Decision
 pub fn say(a: Answer) -> Decision
     ensures { result ≡ says a }
 {
-    Decision::Go(Step {
+    Some(Step {
         effect: Effect::Nothing,
         hand: blank(),
         pending: PendingChange::Keep,
-        found: FoundChange::Keep,
+        found: None,
         next: Next::Answers(a),
     })
 }

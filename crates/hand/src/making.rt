@@ -3,7 +3,7 @@ ghost use Rattle.std.specs.Prelude.{◌≡◌};
 ghost use Rattle.tables.specs.Names.{fresh_word};
 ghost use Rattle.steps.specs.Hand.{at_root, at_node, at_word, holding};
 
-use shapes::{Locals, MaybeNode, NodeNo, Phase, RecordNo, Update};
+use shapes::{Locals, NodeNo, Phase, RecordNo, Update};
 use tables::{DUMMY, FLAG, ROOT};
 
 pub fn fresh_word() -> Update
@@ -23,7 +23,7 @@ pub fn at_word(seq: Phase, x: NodeNo, r: RecordNo) -> Locals
     let word = fresh_word();
     Locals {
         seq,
-        gp: MaybeNode::Absent,
+        gp: None,
         p: x,
         l: none,
         gpup: word,

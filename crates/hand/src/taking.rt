@@ -2,7 +2,7 @@
 ghost use Rattle.std.specs.Prelude.{◌≡◌};
 ghost use Rattle.steps.specs.Hand.{down_to, with_leaf, with_up, with_pup, with_gpup, with_sup, with_lup, with_sibling, with_taken, with_i};
 
-use shapes::{Locals, MaybeNode, NodeNo, RecordNo, Update};
+use shapes::{Locals, NodeNo, RecordNo, Update};
 
 // Lines 37 and 38.
 pub fn down_to(v: Locals, c: NodeNo) -> Locals
@@ -19,7 +19,7 @@ pub fn down_to(v: Locals, c: NodeNo) -> Locals
     let made = v.made;
     let info = v.info;
     let p = v.p;
-    let gp = MaybeNode::At(p);
+    let gp = Some(p);
     Locals {
         seq,
         gp,

@@ -9,14 +9,14 @@ use tables::{TRY, UNDECIDED};
 const SECOND: u32 = 2;
 
 // On to a step with no effect, outside the list.
-pub fn reads(s: HelpStep) -> HelpMove
+pub fn reads(s: HelpStep) -> Option<HelpMove>
     ensures { result ≡ reads s }
 {
-    HelpMove::Goes(Effect::Nothing, 0, s)
+    Some(HelpMove::Goes(Effect::Nothing, 0, s))
 }
 
 // Line 111: the handshake.
-pub fn counter111(totals: Totals, records: &[u32], r: RecordNo) -> HelpMove
+pub fn counter111(totals: Totals, records: &[u32], r: RecordNo) -> Option<HelpMove>
     ensures { result ≡ counter111 totals records.now r }
 {
     let seq = fields::seq_at(records, r);
@@ -40,12 +40,12 @@ pub fn state_cas(records: &[u32], r: RecordNo, s: u32) -> Effect
 }
 
 // Lines 114 and 115.
-pub fn state114(records: &[u32], r: RecordNo) -> HelpMove
+pub fn state114(records: &[u32], r: RecordNo) -> Option<HelpMove>
     ensures { result ≡ state114 records.now r }
 {
     let state = fields::state_at(records, r);
     if state == TRY {
-        HelpMove::Goes(Effect::Nothing, SECOND, HelpStep::Freeze117)
+        Some(HelpMove::Goes(Effect::Nothing, SECOND, HelpStep::Freeze117))
     } else {
         reads(HelpStep::State125)
     }
@@ -73,7 +73,7 @@ pub fn freeze_cas(nodes: &[u32], records: &[u32], r: RecordNo, i: u32) -> Effect
 }
 
 // Lines 119 and 120, then 115 or 122.
-pub fn frozen119(nodes: &[u32], records: &[u32], r: RecordNo, i: u32) -> HelpMove
+pub fn frozen119(nodes: &[u32], records: &[u32], r: RecordNo, i: u32) -> Option<HelpMove>
     ensures { result ≡ frozen119 nodes.now records.now r i }
 {
     let e = fields::entry_at(records, r, i);
@@ -83,7 +83,7 @@ pub fn frozen119(nodes: &[u32], records: &[u32], r: RecordNo, i: u32) -> HelpMov
     if fields::same_record(info, r) {
         let count = fields::count_at(records, r);
         if i < count {
-            HelpMove::Goes(Effect::Nothing, i + 1, HelpStep::Freeze117)
+            Some(HelpMove::Goes(Effect::Nothing, i + 1, HelpStep::Freeze117))
         } else {
             reads(HelpStep::Child123)
         }

@@ -21,25 +21,25 @@ fn help_step(
     r: RecordNo,
     i: u32,
     b: HelpStep,
-) -> HelpMove
+) -> Option<HelpMove>
     ensures { result ≡ help_step (tables totals nodes.now records.now) r i b }
 {
     match b {
         HelpStep::Counter111 => counter111(totals, records, r),
-        HelpStep::Abort112 => HelpMove::Goes(state_cas(records, r, ABORT), 0, HelpStep::State114),
-        HelpStep::Try113 => HelpMove::Goes(state_cas(records, r, TRY), 0, HelpStep::State114),
+        HelpStep::Abort112 => Some(HelpMove::Goes(state_cas(records, r, ABORT), 0, HelpStep::State114)),
+        HelpStep::Try113 => Some(HelpMove::Goes(state_cas(records, r, TRY), 0, HelpStep::State114)),
         HelpStep::State114 => state114(records, r),
-        HelpStep::Freeze117 => HelpMove::Goes(
+        HelpStep::Freeze117 => Some(HelpMove::Goes(
             freeze_cas(nodes, records, r, i),
             i,
             HelpStep::Frozen119,
-        ),
+        )),
         HelpStep::Frozen119 => frozen119(nodes, records, r, i),
-        HelpStep::Child123 => HelpMove::Goes(child123(nodes, records, r), 0, HelpStep::Commit124),
-        HelpStep::Commit124 => HelpMove::Goes(Effect::SetState(r, COMMIT), 0, HelpStep::State127),
+        HelpStep::Child123 => Some(HelpMove::Goes(child123(nodes, records, r), 0, HelpStep::Commit124)),
+        HelpStep::Commit124 => Some(HelpMove::Goes(Effect::SetState(r, COMMIT), 0, HelpStep::State127)),
         HelpStep::State125 => state125(records, r),
-        HelpStep::Abort126 => HelpMove::Goes(Effect::SetState(r, ABORT), 0, HelpStep::State127),
-        HelpStep::State127 => HelpMove::Done(fields::state_at(records, r) == COMMIT),
+        HelpStep::Abort126 => Some(HelpMove::Goes(Effect::SetState(r, ABORT), 0, HelpStep::State127)),
+        HelpStep::State127 => Some(HelpMove::Done(fields::state_at(records, r) == COMMIT)),
     }
 }
 
@@ -51,13 +51,13 @@ pub fn help_of(
     r: RecordNo,
     i: u32,
     b: HelpStep,
-) -> HelpMove
+) -> Option<HelpMove>
     ensures { result ≡ help_of (tables totals nodes.now records.now) r i b }
 {
     if fields::helpable(records, r) {
         help_step(totals, nodes, records, r, i, b)
     } else {
-        HelpMove::Crooked
+        None
     }
 }
 
@@ -81,15 +81,15 @@ fn back_to(b: Back, v: Locals, done: bool) -> Decision
     }
 }
 
-pub fn help_next(b: Back, v: Locals, m: HelpMove) -> Decision
+pub fn help_next(b: Back, v: Locals, m: Option<HelpMove>) -> Decision
     ensures { result ≡ help_next b v m }
 {
     match m {
-        HelpMove::Crooked => Decision::Crooked,
-        HelpMove::Goes(e, i, s) => {
+        None => None,
+        Some(HelpMove::Goes(e, i, s)) => {
             let next = hand::with_i(v, i);
             hand::decide_to(e, next, Place::Help(s, b))
         }
-        HelpMove::Done(done) => back_to(b, v, done),
+        Some(HelpMove::Done(done)) => back_to(b, v, done),
     }
 }

@@ -33,7 +33,7 @@ pub fn child123(nodes: &[u32], records: &[u32], r: RecordNo) -> Effect
 }
 
 // Line 125.
-pub fn state125(records: &[u32], r: RecordNo) -> HelpMove
+pub fn state125(records: &[u32], r: RecordNo) -> Option<HelpMove>
     ensures { result ≡ state125 records.now r }
 {
     let state = fields::state_at(records, r);

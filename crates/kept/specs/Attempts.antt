@@ -1,6 +1,6 @@
 -- Every turn of an insert, a delete or a find is a good decision.
 use Prim.Native.Nat.{ℕ, zero, suc, ◌+◌, ◌-◌, ◌≤◌, ◌<◌}
-use Rattle.std.specs.Prelude.{◌≡◌, Bool, eqb}
+use Rattle.std.specs.Prelude.{◌≡◌, Bool, eqb, Option, None, Some}
 use Rattle.std.proofs.Math.Path.{refl}
 use Rattle.std.proofs.Common.{sym, ap, inl}
 use Rattle.std.proofs.Math.Logic.{inr}
@@ -16,11 +16,8 @@ use Rattle.shapes.specs.declared.Update.{Update}
 use Rattle.shapes.specs.declared.Totals.{Totals}
 use Rattle.shapes.specs.declared.Locals.{Locals}
 use Rattle.shapes.specs.declared.Filling.{Filling}
-use Rattle.shapes.specs.declared.MaybeNode.{MaybeNode}
-use Rattle.shapes.specs.declared.MaybeNode.TheVariants.{Absent, At}
 use Rattle.shapes.specs.declared.Place.{Place}
 use Rattle.shapes.specs.declared.Place.TheVariants as place
-use Rattle.shapes.specs.declared.Decision.{Decision}
 use Rattle.shapes.specs.declared.Kind.{Kind}
 use Rattle.shapes.specs.declared.Kind.TheVariants as kind
 use Rattle.shapes.specs.declared.Link.{Link}
@@ -35,6 +32,7 @@ use Rattle.shapes.specs.declared.Back.{Back}
 use Rattle.shapes.specs.declared.Back.TheVariants.{Own, Again, Node}
 use Rattle.shapes.specs.declared.Effect.TheVariants as effect
 use Rattle.shapes.specs.declared.Answer.TheVariants.{Yes, No, NoRoom}
+use Rattle.shapes.specs.Outcomes.{Decision}
 use Rattle.tables.specs.Names.{node, record_no, root, dummy, flag, update, same_node}
 use Rattle.tables.specs.Nodes.{is_internal, child_at, update_at}
 use Rattle.tables.specs.Records.{count_at, fillable, entry}
@@ -76,7 +74,7 @@ listed_some kind.Insert e = omega arith
 listed_some kind.Delete e = omega arith
 listed_some kind.Find e = absurd (false≢true e)
 
-at_same : {x y : NodeNo} → At x ≡ At y → x ≡ y
+at_same : {x y : NodeNo} → Some x ≡ Some y → x ≡ y
 at_same e = cc
 
 -- ---- the words that are collected
@@ -104,10 +102,10 @@ module _ (s : Tables) (h : TablesSound s) (o : Kind) (k : Key) (v : Locals) (han
   if : (b : Bool) (x y : Decision) → (b ≡ true → G x) → (b ≡ false → G y) → G (pick b x y)
   if = good_pick s h (attempt_home o) (listed o) n f
 
-  with-node : (m : MaybeNode) (g : NodeNo → Decision) → ((x : NodeNo) → m ≡ At x → G (g x)) → G (through m g)
+  with-node : (m : Option NodeNo) (g : NodeNo → Decision) → ((x : NodeNo) → m ≡ Some x → G (g x)) → G (through m g)
   with-node = good_through s h (attempt_home o) (listed o) n f
 
-  parent : (m : MaybeNode) (x : NodeNo) → MaybeSound s.totals m → as_parent s.nodes m ≡ At x → Parent s x
+  parent : (m : Option NodeNo) (x : NodeNo) → MaybeSound s.totals m → as_parent s.nodes m ≡ Some x → Parent s x
   parent m x l e = (parent_at s h m x e l).1
 
   -- ---- SEARCH
@@ -146,10 +144,10 @@ module _ (s : Tables) (h : TablesSound s) (o : Kind) (k : Key) (v : Locals) (han
 
   -- ---- the leaf is validated
 
-  reaches_good : (m : MaybeNode) → is_delete o ≡ true → G (reaches182 v m)
+  reaches_good : (m : Option NodeNo) → is_delete o ≡ true → G (reaches182 v m)
   unfolding reaches182 attempt_home
-  reaches_good Absent e = tt
-  reaches_good (At x) e = if _ _ _ (λ _. tt) (λ _. go v place.Sibling182 hand e tt)
+  reaches_good None e = tt
+  reaches_good (Some x) e = if _ _ _ (λ _. tt) (λ _. go v place.Sibling182 hand e tt)
 
   validated_good : (c : Kind) → c ≡ o → G (validated s.totals s.nodes c k v)
   unfolding validated is_insert is_delete
@@ -196,29 +194,29 @@ module _ (s : Tables) (h : TablesSound s) (o : Kind) (k : Key) (v : Locals) (han
   held_good Left187 t = go _ (place.Link Right188 Word52) (hand_sup hand _ hand.up) t tt
   held_good Right188 t = go v place.Leaf190 hand t tt
 
-  abbrev GoodLink : LinkMove → Type 0
-  GoodLink link.Crooked = Unit {0}
-  GoodLink (link.Goes b u) = WordSound s.totals u
-  GoodLink (link.Helps r) = r.0 < s.totals.records
-  GoodLink link.Fails = Unit {0}
-  GoodLink link.Holds = Unit {0}
+  abbrev GoodLink : Option LinkMove → Type 0
+  GoodLink None = Unit {0}
+  GoodLink (Some (link.Goes b u)) = WordSound s.totals u
+  GoodLink (Some (link.Helps r)) = r.0 < s.totals.records
+  GoodLink (Some link.Fails) = Unit {0}
+  GoodLink (Some link.Holds) = Unit {0}
 
-  link_next_good : (a : Link) (m : LinkMove) → link_home o a ≡ true → GoodLink m → G (link_next s.totals s.nodes v a m)
+  link_next_good : (a : Link) (m : Option LinkMove) → link_home o a ≡ true → GoodLink m → G (link_next s.totals s.nodes v a m)
   unfolding link_next attempt_home link_home back_home
-  link_next_good a link.Crooked t g = tt
-  link_next_good a (link.Goes b u) t g = go _ (place.Link a b) (hand_up hand u g) t tt
-  link_next_good a (link.Helps r) t g = good_helps s h (attempt_home o) (listed o) n f r refl g
-  link_next_good a link.Fails t g = again
-  link_next_good a link.Holds t g = held_good a t
+  link_next_good a None t g = tt
+  link_next_good a (Some (link.Goes b u)) t g = go _ (place.Link a b) (hand_up hand u g) t tt
+  link_next_good a (Some (link.Helps r)) t g = good_helps s h (attempt_home o) (listed o) n f r refl g
+  link_next_good a (Some link.Fails) t g = again
+  link_next_good a (Some link.Holds) t g = held_good a t
 
-  link_good : (x c : MaybeNode) (left : Bool) (b : LinkStep) → ((p : NodeNo) → x ≡ At p → p.0 < s.totals.nodes) → GoodLink (link_of s.nodes s.records x c left v.up b)
+  link_good : (x c : Option NodeNo) (left : Bool) (b : LinkStep) → ((p : NodeNo) → x ≡ Some p → p.0 < s.totals.nodes) → GoodLink (link_of s.nodes s.records x c left v.up b)
   unfolding link_of word52 state53 child57
-  link_good Absent c left Word52 l = tt
-  link_good (At p) c left Word52 l = update-sound s h p (l p refl)
+  link_good None c left Word52 l = tt
+  link_good (Some p) c left Word52 l = update-sound s h p (l p refl)
   link_good x c left State53 l = fork GoodLink (frozen s.records v.up) (λ _. hand.up.info) (λ _. hand.up)
-  link_good Absent c left Child57 l = tt
-  link_good (At p) Absent left Child57 l = tt
-  link_good (At p) (At d) left Child57 l = fork GoodLink (same_node (child_at s.nodes p left) d) (λ _. tt) (λ _. tt)
+  link_good None c left Child57 l = tt
+  link_good (Some p) None left Child57 l = tt
+  link_good (Some p) (Some d) left Child57 l = fork GoodLink (same_node (child_at s.nodes p left) d) (λ _. tt) (λ _. tt)
 
   parent_sound : (a : Link) → MaybeSound s.totals (link_parent v a)
   unfolding link_parent
@@ -270,7 +268,7 @@ module _ (s : Tables) (h : TablesSound s) (o : Kind) (k : Key) (v : Locals) (han
   fills_good : (c : Kind) → c ≡ o → fillable s.records v.info ≡ true → G (fills s.nodes c v)
   unfolding fills fill_insert fill_delete is_update
   fills_good kind.Insert e m = with-node _ _ (λ p d.
-      let at = parent_at s h (At v.p) p d hand.p in
+      let at = parent_at s h (Some v.p) p d hand.p in
       filled_good (insert_filling v) (ap is_update (sym e)) (may_fill _ m (insert-filled (rw (at_same at.0) at.1.internal))))
   fills_good kind.Delete e m = with-node _ _ (λ g d. with-node _ _ (λ p b. if _ _ _ (λ _. filled_good (delete_filling v g) (ap is_update (sym e)) (may_fill _ m (delete-filled g (parent v.gp g hand.gp d)))) (λ _. tt)))
   fills_good kind.Find e m = tt

@@ -1,5 +1,5 @@
 -- What a turn leaves alone, from any sound tables.
-use Rattle.std.specs.Prelude.{ℕ, ◌-◌, ◌<◌, ◌≡◌, ◌≢◌, ℤ, ltb}
+use Rattle.std.specs.Prelude.{ℕ, ◌-◌, ◌<◌, ◌≡◌, ◌≢◌, ℤ, ltb, Option, None, Some}
 use Rattle.std.proofs.Math.Path.{refl}
 use Rattle.std.proofs.Common.{ap, subst, arith, ltb-true}
 use Rattle.std.proofs.Math.ListN.{get_or}
@@ -7,17 +7,13 @@ use Rattle.std.proofs.Math.Seq.{get_or-set_other}
 use Rattle.laws.specs.Choice.{fork}
 use Rattle.shapes.specs.declared.RecordNo.{RecordNo}
 use Rattle.shapes.specs.declared.Operation.{Operation}
-use Rattle.shapes.specs.declared.Condition.{Condition}
-use Rattle.shapes.specs.declared.Condition.TheVariants.{Idle, Busy}
 use Rattle.shapes.specs.declared.PendingChange.{PendingChange}
 use Rattle.shapes.specs.declared.PendingChange.TheVariants as pending
-use Rattle.shapes.specs.declared.FoundChange.{FoundChange}
-use Rattle.shapes.specs.declared.FoundChange.TheVariants as found
 use Rattle.shapes.specs.declared.Effect.{Effect}
 use Rattle.shapes.specs.declared.Effect.TheVariants as effect
 use Rattle.shapes.specs.declared.Step.{Step}
-use Rattle.shapes.specs.declared.Decision.{Decision}
-use Rattle.shapes.specs.declared.Decision.TheVariants as decision
+use Rattle.shapes.specs.Outcomes.{Decision}
+use Rattle.shapes.specs.declared.Key.{Key}
 use Rattle.tables.specs.Names.{record_no}
 use Rattle.tables.specs.Records.{count_at, undecided, aborted, unfilled}
 use Rattle.tables.specs.RecordWrites.{filling_at, filling_set_state, filling_new_record_record}
@@ -86,23 +82,23 @@ module _ (s : World) (h : Sound s) (w : ℕ) where
       pushed_other (pending.Push x) p u i ne l = unfold pushed in get_or-set_other s.pending _ _ x.0 0 (spot_other (totals_of s) w u _ i p.0 l ne)
       pushed_other pending.Pop p u i ne l = unfold pushed in refl
 
-      added_other : (c : FoundChange) → FoundFits (totals_of s) (worker_at s w).found c → (u i : ℕ) (z : ℤ) → u ≢ w → i < (totals_of s).n → get_or (added s.found (spot (totals_of s) w (worker_at s w).found) c) (spot (totals_of s) u i) z ≡ get_or s.found (spot (totals_of s) u i) z
-      added_other found.Keep p u i z ne l = unfold added in refl
-      added_other (found.Add k) p u i z ne l = unfold added in get_or-set_other s.found _ _ _ z (spot_other (totals_of s) w u _ i p l ne)
+      added_other : (c : Option Key) → FoundFits (totals_of s) (worker_at s w).found c → (u i : ℕ) (z : ℤ) → u ≢ w → i < (totals_of s).n → get_or (added s.found (spot (totals_of s) w (worker_at s w).found) c) (spot (totals_of s) u i) z ≡ get_or s.found (spot (totals_of s) u i) z
+      added_other None p u i z ne l = unfold added in refl
+      added_other (Some k) p u i z ne l = unfold added in get_or-set_other s.found _ _ _ z (spot_other (totals_of s) w u _ i p l ne)
 
   settle_framed : (o : Operation) (e : Decision) → Good (tables_of s) (home_of o) (listed_by o) (worker_at s w).pending (worker_at s w).found e → Framed s (settle s w (worker_at s w) o e).world w
   unfolding settle
-  settle_framed o decision.Crooked good = framed_same s w
-  settle_framed o (decision.Go d) good = settled_framed o d good
+  settle_framed o None good = framed_same s w
+  settle_framed o (Some d) good = settled_framed o d good
 
-  on_framed : w < (totals_of s).p → (c : Condition) → (worker_at s w).condition ≡ c → Framed s (step_on s w (worker_at s w) c).world w
+  on_framed : w < (totals_of s).p → (c : Option Operation) → (worker_at s w).operation ≡ c → Framed s (step_on s w (worker_at s w) c).world w
   unfolding step_on
-  on_framed l Idle e = framed_same s w
-  on_framed l (Busy o) e = settle_framed o _ (unfold lists_of in decide_good (tables_of s) h.shared (lists_of s w (worker_at s w)) o (worker_at s w).hand (h.workers w l).hand (top_used s h w l) (subst (ConditionSound s.records (worker_at s w).hand (worker_at s w).pending) e (h.workers w l).place))
+  on_framed l None e = framed_same s w
+  on_framed l (Some o) e = settle_framed o _ (unfold lists_of in decide_good (tables_of s) h.shared (lists_of s w (worker_at s w)) o (worker_at s w).hand (h.workers w l).hand (top_used s h w l) (subst (ConditionSound s.records (worker_at s w).hand (worker_at s w).pending) e (h.workers w l).place))
 
   step_framed : Framed s (step_of s w).world w
   unfolding step_of
-  step_framed = fork (λ (r : Left). Framed s r.world w) (ltb w (totals_of s).p) (λ l. on_framed (ltb-true _ _ l) (worker_at s w).condition refl) (λ _. framed_same s w)
+  step_framed = fork (λ (r : Left). Framed s r.world w) (ltb w (totals_of s).p) (λ l. on_framed (ltb-true _ _ l) (worker_at s w).operation refl) (λ _. framed_same s w)
 
   pub turn_framed : Framed s (turn_of s w).world w
   unfolding turn_of

@@ -1,5 +1,5 @@
 -- Fresh tables are sound.
-use Rattle.std.specs.Prelude.{ℕ, ◌*◌, ◌-◌, ◌≤◌, ◌<◌, ◌≡◌, refl, List, true, ◌&&◌, length, get_or, drop, replicate}
+use Rattle.std.specs.Prelude.{ℕ, ◌*◌, ◌-◌, ◌≤◌, ◌<◌, ◌≡◌, refl, List, true, ◌&&◌, length, get_or, drop, replicate, None}
 use Rattle.std.proofs.Common.{◌∙◌, inr, length-append, length-drop}
 use native.Mathlib.Omega.{arith}
 use Rattle.std.proofs.lemmas.List.{length-replicate, get_or-replicate}
@@ -8,7 +8,6 @@ use Rattle.laws.specs.Choice.{pick}
 use Rattle.laws.specs.Tests.{says_and}
 use Rattle.shapes.specs.declared.NodeNo.{NodeNo}
 use Rattle.shapes.specs.declared.Totals.{Totals}
-use Rattle.shapes.specs.declared.MaybeNode.TheVariants.{Absent}
 use Rattle.tables.specs.Names.{node, phase, root, dummy, infinite, fresh_word}
 use Rattle.tables.specs.Rows.{HasRows}
 use Rattle.tables.specs.Nodes.{node_width, new_node}
@@ -46,11 +45,11 @@ module _ (n m p : ℕ) (s : World) (sizes : SizesSound n m p) (node-room : HasRo
   unfolding t
   word_sound = record { type = omega arith; info = omega arith }
 
-  root-sound : NodeSound t 0 (record { kind = 1; rank = infinite 2; phase = 0; prev = Absent }) (node 1) (node 2) fresh_word
+  root-sound : NodeSound t 0 (record { kind = 1; rank = infinite 2; phase = 0; prev = None }) (node 1) (node 2) fresh_word
   unfolding t
   root-sound = record { kind = omega arith; rank = infinite-sound 2 (omega arith); phase = omega arith; prev = tt; update = word_sound; parents = λ e. (omega arith, omega arith); leaves = λ ne. absurd (ne refl) }
 
-  leaf_sound : (x class : ℕ) → class ≤ 2 → NodeSound t x (record { kind = 0; rank = infinite class; phase = 0; prev = Absent }) root root fresh_word
+  leaf_sound : (x class : ℕ) → class ≤ 2 → NodeSound t x (record { kind = 0; rank = infinite class; phase = 0; prev = None }) root root fresh_word
   unfolding t
   leaf_sound x class h = record { kind = omega arith; rank = infinite-sound class h; phase = omega arith; prev = tt; update = word_sound; parents = λ e. absurd (omega arith); leaves = λ ne. (refl, refl) }
 
@@ -59,11 +58,11 @@ module _ (n m p : ℕ) (s : World) (sizes : SizesSound n m p) (node-room : HasRo
 
   one : List ℕ
   unfolding empty
-  one = new_node empty root 1 (infinite 2) (phase 0) Absent (node 1) (node 2)
+  one = new_node empty root 1 (infinite 2) (phase 0) None (node 1) (node 2)
 
   two : List ℕ
   unfolding one
-  two = new_node one (node 1) 0 (infinite 1) (phase 0) Absent root root
+  two = new_node one (node 1) 0 (infinite 1) (phase 0) None root root
 
   rows_empty : HasRows node_width empty n
   unfolding empty HasRows
@@ -71,31 +70,31 @@ module _ (n m p : ℕ) (s : World) (sizes : SizesSound n m p) (node-room : HasRo
 
   rows-one : HasRows node_width one n
   unfolding one
-  rows-one = rows-new_node empty root 1 (infinite 2) (phase 0) Absent (node 1) (node 2) n rows_empty
+  rows-one = rows-new_node empty root 1 (infinite 2) (phase 0) None (node 1) (node 2) n rows_empty
 
   rows-two : HasRows node_width two n
   unfolding two
-  rows-two = rows-new_node one (node 1) 0 (infinite 1) (phase 0) Absent root root n rows-one
+  rows-two = rows-new_node one (node 1) 0 (infinite 1) (phase 0) None root root n rows-one
 
   rows-fresh : HasRows node_width (fresh_nodes n s.nodes) n
   unfolding fresh_nodes two one empty
-  rows-fresh = rows-new_node two (node 2) 0 (infinite 2) (phase 0) Absent root root n rows-two
+  rows-fresh = rows-new_node two (node 2) 0 (infinite 2) (phase 0) None root root n rows-two
 
   nodes_fresh : NodesSound t (fresh_nodes n s.nodes) 3
   unfolding fresh_nodes two one empty
   nodes_fresh =
-      nodes_new t two 2 n 0 (infinite 2) (phase 0) Absent root root rows-two (omega (arith, sizes.n_at_least))
-      (nodes_new t one 1 n 0 (infinite 1) (phase 0) Absent root root rows-one (omega (arith, sizes.n_at_least))
-      (nodes_new t empty 0 n 1 (infinite 2) (phase 0) Absent (node 1) (node 2) rows_empty (omega (arith, sizes.n_at_least)) (λ k l. absurd (omega arith)) root-sound)
+      nodes_new t two 2 n 0 (infinite 2) (phase 0) None root root rows-two (omega (arith, sizes.n_at_least))
+      (nodes_new t one 1 n 0 (infinite 1) (phase 0) None root root rows-one (omega (arith, sizes.n_at_least))
+      (nodes_new t empty 0 n 1 (infinite 2) (phase 0) None (node 1) (node 2) rows_empty (omega (arith, sizes.n_at_least)) (λ k l. absurd (omega arith)) root-sound)
       (leaf_sound 1 1 (omega arith)))
       (leaf_sound 2 2 (omega arith))
 
-  fixed_root : fixed_at (fresh_nodes n s.nodes) root ≡ record { kind = 1; rank = infinite 2; phase = 0; prev = Absent }
+  fixed_root : fixed_at (fresh_nodes n s.nodes) root ≡ record { kind = 1; rank = infinite 2; phase = 0; prev = None }
   unfolding fresh_nodes two one empty
   fixed_root =
-      keeps_new t two 2 n 0 (infinite 2) (phase 0) Absent root root rows-two (omega (arith, sizes.n_at_least)) root (omega arith)
-      ∙ keeps_new t one 1 n 0 (infinite 1) (phase 0) Absent root root rows-one (omega (arith, sizes.n_at_least)) root (omega arith)
-      ∙ fixed_new_node_same empty root 1 (infinite 2) (phase 0) Absent (node 1) (node 2) n rows_empty (omega (arith, sizes.n_at_least))
+      keeps_new t two 2 n 0 (infinite 2) (phase 0) None root root rows-two (omega (arith, sizes.n_at_least)) root (omega arith)
+      ∙ keeps_new t one 1 n 0 (infinite 1) (phase 0) None root root rows-one (omega (arith, sizes.n_at_least)) root (omega arith)
+      ∙ fixed_new_node_same empty root 1 (infinite 2) (phase 0) None (node 1) (node 2) n rows_empty (omega (arith, sizes.n_at_least))
 
   root-fresh : RootSound (fixed_at (fresh_nodes n s.nodes) root)
   root-fresh = rw fixed_root (record { kind = refl; class = refl; word = refl; phase = refl; prev = refl })

@@ -2,7 +2,7 @@
 use Prim.Native.Nat.{ℕ, zero, suc, ◌≤◌, ◌<◌}
 use Rattle.std.proofs.Math.Path.{◌≡◌, refl}
 use Rattle.std.proofs.Common.{ap, arith}
-use Rattle.std.specs.Prelude.{List, Bool, leb}
+use Rattle.std.specs.Prelude.{List, Bool, leb, Option, None, Some}
 use Rattle.std.proofs.Math.Bool.{true, false}
 use Rattle.laws.specs.Choice.{pick, fork}
 use Rattle.shapes.specs.declared.NodeNo.{NodeNo}
@@ -11,8 +11,6 @@ use Rattle.shapes.specs.declared.Phase.{Phase}
 use Rattle.shapes.specs.declared.Update.{Update}
 use Rattle.shapes.specs.declared.Totals.{Totals}
 use Rattle.shapes.specs.declared.Locals.{Locals}
-use Rattle.shapes.specs.declared.MaybeNode.{MaybeNode}
-use Rattle.shapes.specs.declared.MaybeNode.TheVariants.{Absent, At}
 use Rattle.shapes.specs.declared.Place.{Place}
 use Rattle.shapes.specs.declared.Place.TheVariants as place
 use Rattle.shapes.specs.declared.HelpStep.TheVariants.{Counter111}
@@ -20,14 +18,12 @@ use Rattle.shapes.specs.declared.Back.TheVariants.{Again}
 use Rattle.shapes.specs.declared.Effect.{Effect}
 use Rattle.shapes.specs.declared.PendingChange.{PendingChange}
 use Rattle.shapes.specs.declared.PendingChange.TheVariants as pending
-use Rattle.shapes.specs.declared.FoundChange.{FoundChange}
-use Rattle.shapes.specs.declared.FoundChange.TheVariants as found
 use Rattle.shapes.specs.declared.Answer.{Answer}
 use Rattle.shapes.specs.declared.Next.{Next}
 use Rattle.shapes.specs.declared.Next.TheVariants as next
 use Rattle.shapes.specs.declared.Step.{Step}
-use Rattle.shapes.specs.declared.Decision.{Decision}
-use Rattle.shapes.specs.declared.Decision.TheVariants as decision
+use Rattle.shapes.specs.Outcomes.{Decision}
+use Rattle.shapes.specs.declared.Key.{Key}
 use Rattle.tables.specs.Names.{phase, root, dummy, fresh_word}
 use Rattle.tables.specs.Nodes.{is_internal, phase_at, prev_at, child_at}
 use Rattle.tables.specs.NodeWrites.{fixed_at}
@@ -52,9 +48,9 @@ PendingFits t n pending.Keep = Unit {0}
 PendingFits t n (pending.Push x) = (n < t.n) × (x.0 < t.nodes)
 PendingFits t n pending.Pop = Unit {0}
 
-abbrev pub FoundFits : Totals → ℕ → FoundChange → Type 0
-FoundFits t n found.Keep = Unit {0}
-FoundFits t n (found.Add k) = n < t.n
+abbrev pub FoundFits : Totals → ℕ → Option Key → Type 0
+FoundFits t n None = Unit {0}
+FoundFits t n (Some k) = n < t.n
 
 abbrev pub NextFits : (Place → Bool) → ℕ → List ℕ → Locals → ℕ → Next → Type 0
 NextFits home k rs v n (next.At q) = Allowed home k rs v n q
@@ -69,8 +65,8 @@ pub record GoodStep (s : Tables) (home : Place → Bool) (k n f : ℕ) (d : Step
   pub next : NextFits home k (apply d.effect s).records d.hand (pending_left n d.pending) d.next
 
 abbrev pub Good : Tables → (Place → Bool) → ℕ → ℕ → ℕ → Decision → Type 0
-Good s home k n f decision.Crooked = Unit {0}
-Good s home k n f (decision.Go d) = GoodStep s home k n f d
+Good s home k n f None = Unit {0}
+Good s home k n f (Some d) = GoodStep s home k n f d
 
 -- ---- what may stand in the hand
 
@@ -147,35 +143,35 @@ module _ (s : Tables) (h : TablesSound s) where
     pub good_pick : (b : Bool) (x y : Decision) → (b ≡ true → Good s home k n f x) → (b ≡ false → Good s home k n f y) → Good s home k n f (pick b x y)
     good_pick b x y p q = fork (Good s home k n f) b p q
 
-    pub good_through : (m : MaybeNode) (g : NodeNo → Decision) → ((x : NodeNo) → m ≡ At x → Good s home k n f (g x)) → Good s home k n f (through m g)
+    pub good_through : (m : Option NodeNo) (g : NodeNo → Decision) → ((x : NodeNo) → m ≡ Some x → Good s home k n f (g x)) → Good s home k n f (through m g)
     unfolding through
-    good_through Absent g go = tt
-    good_through (At x) g go = go x refl
+    good_through None g go = tt
+    good_through (Some x) g go = go x refl
 
   -- ---- nodes that a turn comes to are used
 
-  pub parent_at : (m : MaybeNode) (x : NodeNo) → as_parent s.nodes m ≡ At x → MaybeSound s.totals m → (m ≡ At x) × Parent s x
+  pub parent_at : (m : Option NodeNo) (x : NodeNo) → as_parent s.nodes m ≡ Some x → MaybeSound s.totals m → (m ≡ Some x) × Parent s x
   unfolding as_parent
-  parent_at Absent x e l = let z : ◌≡◌ {A = ℕ} 0 1 = cc in absurd (omega arith)
-  parent_at (At y) x e l = found (is_internal s.nodes y) refl e
+  parent_at None x e l = let z : ◌≡◌ {A = ℕ} 0 1 = cc in absurd (omega arith)
+  parent_at (Some y) x e l = found (is_internal s.nodes y) refl e
     where
-      found : (b : Bool) → is_internal s.nodes y ≡ b → pick b (At y) Absent ≡ At x → (At y ≡ At x) × Parent s x
+      found : (b : Bool) → is_internal s.nodes y ≡ b → pick b (Some y) None ≡ Some x → (Some y ≡ Some x) × Parent s x
       found true i g =
           let same : y ≡ x = unfold pick in cc in
-          (ap At same, record { used = rw (← same) l; internal = rw (← same) i })
+          (ap Some same, record { used = rw (← same) l; internal = rw (← same) i })
       found false i g = let z : ◌≡◌ {A = ℕ} 0 1 = unfold pick in cc in absurd (omega arith)
 
-  pub walk_used : (fuel : ℕ) (seq : Phase) (m : MaybeNode) (y : NodeNo) → MaybeSound s.totals m → walk_back fuel s.nodes seq m ≡ At y → y.0 < s.totals.nodes
+  pub walk_used : (fuel : ℕ) (seq : Phase) (m : Option NodeNo) (y : NodeNo) → MaybeSound s.totals m → walk_back fuel s.nodes seq m ≡ Some y → y.0 < s.totals.nodes
   unfolding walk_back
   walk_used zero seq m y l e = let z : ◌≡◌ {A = ℕ} 0 1 = cc in absurd (omega arith)
-  walk_used (suc k) seq Absent y l e = let z : ◌≡◌ {A = ℕ} 0 1 = cc in absurd (omega arith)
-  walk_used (suc k) seq (At x) y l e = found (leb (phase_at s.nodes x).0 seq.0) e (walk_used k seq (prev_at s.nodes x) y (back (prev_at s.nodes x) (unfold fixed_at in (h.nodes x.0 l).prev)))
+  walk_used (suc k) seq None y l e = let z : ◌≡◌ {A = ℕ} 0 1 = cc in absurd (omega arith)
+  walk_used (suc k) seq (Some x) y l e = found (leb (phase_at s.nodes x).0 seq.0) e (walk_used k seq (prev_at s.nodes x) y (back (prev_at s.nodes x) (unfold fixed_at in (h.nodes x.0 l).prev)))
     where
-      back : (m : MaybeNode) → PrevSound x.0 m → MaybeSound s.totals m
-      back Absent p = tt
-      back (At z) p = omega (arith, l)
+      back : (m : Option NodeNo) → PrevSound x.0 m → MaybeSound s.totals m
+      back None p = tt
+      back (Some z) p = omega (arith, l)
 
-      found : (b : Bool) → pick b (At x) (walk_back k s.nodes seq (prev_at s.nodes x)) ≡ At y → (walk_back k s.nodes seq (prev_at s.nodes x) ≡ At y → y.0 < s.totals.nodes) → y.0 < s.totals.nodes
+      found : (b : Bool) → pick b (Some x) (walk_back k s.nodes seq (prev_at s.nodes x)) ≡ Some y → (walk_back k s.nodes seq (prev_at s.nodes x) ≡ Some y → y.0 < s.totals.nodes) → y.0 < s.totals.nodes
       found true g further = let same : x ≡ y = unfold pick in cc in rw (← same) l
       found false g further = further (unfold pick in g)
 
@@ -183,6 +179,6 @@ module _ (s : Tables) (h : TablesSound s) where
   child_used x p true = ((h.nodes x.0 p.used).parents (kind_one s.nodes x p.internal)).0
   child_used x p false = ((h.nodes x.0 p.used).parents (kind_one s.nodes x p.internal)).1
 
-  pub read_used : (used : ℕ) (x : NodeNo) (left : Bool) (seq : Phase) (c : NodeNo) → Parent s x → read_child used s.nodes x left seq ≡ At c → c.0 < s.totals.nodes
+  pub read_used : (used : ℕ) (x : NodeNo) (left : Bool) (seq : Phase) (c : NodeNo) → Parent s x → read_child used s.nodes x left seq ≡ Some c → c.0 < s.totals.nodes
   unfolding read_child
-  read_used used x left seq c p e = walk_used used seq (At (child_at s.nodes x left)) c (child_used x p left) e
+  read_used used x left seq c p e = walk_used used seq (Some (child_at s.nodes x left)) c (child_used x p left) e

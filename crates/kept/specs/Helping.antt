@@ -1,5 +1,5 @@
 -- HELP's turns are good decisions, wherever HELP returns to.
-use Rattle.std.specs.Prelude.{ℕ, zero, suc, ◌+◌, ◌-◌, ◌≤◌, ◌<◌, ◌≡◌, ◌⊎◌, Bool, true, not, eqb}
+use Rattle.std.specs.Prelude.{ℕ, zero, suc, ◌+◌, ◌-◌, ◌≤◌, ◌<◌, ◌≡◌, ◌⊎◌, Bool, true, not, eqb, Option, None, Some}
 use Rattle.std.proofs.Math.Path.{refl}
 use Rattle.std.proofs.Common.{sym, ◌∙◌, subst, inl, inr, arith}
 use Rattle.std.proofs.Math.Bool.{false}
@@ -75,32 +75,32 @@ entry-sound s r g (suc i) a b =
 -- ---- a move
 
 -- what a move must be: its effect fits, and a place in the list lies within it
-abbrev pub GoodMove : Tables → RecordNo → HelpMove → Type 0
-GoodMove s r help.Crooked = Unit {0}
-GoodMove s r (help.Goes e i b) = Fits e s × ((apply e s).totals ≡ s.totals) × (in_list b ≡ true → (1 ≤ i) × (i ≤ count_at (apply e s).records r))
-GoodMove s r (help.Done done) = Unit {0}
+abbrev pub GoodMove : Tables → RecordNo → Option HelpMove → Type 0
+GoodMove s r None = Unit {0}
+GoodMove s r (Some (help.Goes e i b)) = Fits e s × ((apply e s).totals ≡ s.totals) × (in_list b ≡ true → (1 ≤ i) × (i ≤ count_at (apply e s).records r))
+GoodMove s r (Some (help.Done done)) = Unit {0}
 
 outside : (b : Bool) {A : Type 0} → b ≡ false → b ≡ true → A
 outside b f t = let z : false ≡ true = sym f ∙ t in absurd (false≢true z)
 
 module _ (s : Tables) (h : TablesSound s) (r : RecordNo) (g : Helped s r) where
-  reads_good : (b : HelpStep) → in_list b ≡ false → GoodMove s r (help.Goes effect.Nothing 0 b)
+  reads_good : (b : HelpStep) → in_list b ≡ false → GoodMove s r (Some (help.Goes effect.Nothing 0 b))
   unfolding apply
   reads_good b e = (tt, refl, outside (in_list b) e)
 
-  inside_good : (i : ℕ) (b : HelpStep) → 1 ≤ i → i ≤ count_at s.records r → GoodMove s r (help.Goes effect.Nothing i b)
+  inside_good : (i : ℕ) (b : HelpStep) → 1 ≤ i → i ≤ count_at s.records r → GoodMove s r (Some (help.Goes effect.Nothing i b))
   unfolding apply
   inside_good i b a c = (tt, refl, λ e. (a, c))
 
-  state_good : (v : ℕ) (b : HelpStep) → v ≤ aborted → in_list b ≡ false → GoodMove s r (help.Goes (effect.SetState r v) 0 b)
+  state_good : (v : ℕ) (b : HelpStep) → v ≤ aborted → in_list b ≡ false → GoodMove s r (Some (help.Goes (effect.SetState r v) 0 b))
   unfolding apply
   state_good v b l e = ((g.other, g.used, l), refl, outside (in_list b) e)
 
   -- an effect or nothing, by a test
-  cas_good : (t : Bool) (e : Effect) (i : ℕ) (b : HelpStep) → GoodMove s r (help.Goes e i b) → GoodMove s r (help.Goes effect.Nothing i b) → GoodMove s r (help.Goes (pick t e effect.Nothing) i b)
-  cas_good t e i b x y = fork (λ d. GoodMove s r (help.Goes d i b)) t (λ _. x) (λ _. y)
+  cas_good : (t : Bool) (e : Effect) (i : ℕ) (b : HelpStep) → GoodMove s r (Some (help.Goes e i b)) → GoodMove s r (Some (help.Goes effect.Nothing i b)) → GoodMove s r (Some (help.Goes (pick t e effect.Nothing) i b))
+  cas_good t e i b x y = fork (λ d. GoodMove s r (Some (help.Goes d i b))) t (λ _. x) (λ _. y)
 
-  move_pick : (t : Bool) (x y : HelpMove) → (t ≡ true → GoodMove s r x) → (t ≡ false → GoodMove s r y) → GoodMove s r (pick t x y)
+  move_pick : (t : Bool) (x y : Option HelpMove) → (t ≡ true → GoodMove s r x) → (t ≡ false → GoodMove s r y) → GoodMove s r (pick t x y)
   move_pick t x y p q = fork (GoodMove s r) t p q
 
   pub step_good : (i : ℕ) (b : HelpStep) → (in_list b ≡ true → (1 ≤ i) × (i ≤ count_at s.records r)) → GoodMove s r (help_step s r i b)
@@ -143,8 +143,8 @@ module _ (s : Tables) (h : TablesSound s) (home : Place → Bool) (k n f : ℕ) 
   back_good Again v done hand e = good_retries s h home k n f e
   back_good Node v done hand e = good_goes s h home k n f _ place.Child141 (hand_bare s h v.seq v.p dummy hand.seq hand.p (omega (arith, h.used.least_records))) (e, tt)
 
-  pub next_good : (b : Back) (v : Locals) (m : HelpMove) → HandSound s.totals v → ((c : HelpStep) → home (place.Help c b) ≡ true) → Returns home b → GoodMove s v.info m → Good s home k n f (help_next b v m)
+  pub next_good : (b : Back) (v : Locals) (m : Option HelpMove) → HandSound s.totals v → ((c : HelpStep) → home (place.Help c b) ≡ true) → Returns home b → GoodMove s v.info m → Good s home k n f (help_next b v m)
   unfolding help_next
-  next_good b v help.Crooked hand at ret g = tt
-  next_good b v (help.Goes e i c) hand at ret g = good_does s h home k n f e (with_i v i) (place.Help c b) g.0 (rw g.1 (hand_i hand i)) (at c, g.2)
-  next_good b v (help.Done done) hand at ret g = back_good b v done hand ret
+  next_good b v None hand at ret g = tt
+  next_good b v (Some (help.Goes e i c)) hand at ret g = good_does s h home k n f e (with_i v i) (place.Help c b) g.0 (rw g.1 (hand_i hand i)) (at c, g.2)
+  next_good b v (Some (help.Done done)) hand at ret g = back_good b v done hand ret

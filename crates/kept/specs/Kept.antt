@@ -1,15 +1,12 @@
 -- A start or a turn keeps sound tables sound, from any sound tables; a refused one leaves them as they are.
-use Rattle.std.specs.Prelude.{ℕ, ◌-◌, ◌<◌, ◌≡◌, refl, true, ltb}
+use Rattle.std.specs.Prelude.{ℕ, ◌-◌, ◌<◌, ◌≡◌, refl, true, ltb, Option, None, Some}
 use Rattle.std.proofs.Common.{subst, arith, ltb-true}
 use Rattle.laws.specs.Choice.{fork}
 use Rattle.shapes.specs.declared.Key.{Key}
 use Rattle.shapes.specs.declared.Place.TheVariants as place
 use Rattle.shapes.specs.declared.Operation.{Operation}
 use Rattle.shapes.specs.declared.Operation.TheVariants.{Insert, Delete, Find, Scan}
-use Rattle.shapes.specs.declared.Condition.{Condition}
-use Rattle.shapes.specs.declared.Condition.TheVariants.{Idle, Busy}
-use Rattle.shapes.specs.declared.Decision.{Decision}
-use Rattle.shapes.specs.declared.Decision.TheVariants as decision
+use Rattle.shapes.specs.Outcomes.{Decision}
 use Rattle.tables.specs.World.{World, totals_of, tables_of, blank, idle, worker_at, pending_at}
 use Rattle.tables.specs.Fresh.{Left}
 use Rattle.sound.specs.Homes.{attempt_home, scan_home}
@@ -29,17 +26,17 @@ module _ (s : World) (h : Sound s) where
 
   settle-sound : (w : ℕ) (o : Operation) → w < (totals_of s).p → (e : Decision) → Good (tables_of s) (home_of o) (listed_by o) (worker_at s w).pending (worker_at s w).found e → Sound (settle s w (worker_at s w) o e).world
   unfolding settle
-  settle-sound w o l decision.Crooked good = h
-  settle-sound w o l (decision.Go d) good = settled-sound s h w l o d good
+  settle-sound w o l None good = h
+  settle-sound w o l (Some d) good = settled-sound s h w l o d good
 
-  on_sound : (w : ℕ) → w < (totals_of s).p → (c : Condition) → (worker_at s w).condition ≡ c → Sound (step_on s w (worker_at s w) c).world
+  on_sound : (w : ℕ) → w < (totals_of s).p → (c : Option Operation) → (worker_at s w).operation ≡ c → Sound (step_on s w (worker_at s w) c).world
   unfolding step_on
-  on_sound w l Idle e = h
-  on_sound w l (Busy o) e = settle-sound w o l _ (unfold lists_of in decide_good (tables_of s) h.shared (lists_of s w (worker_at s w)) o (worker_at s w).hand (h.workers w l).hand (top_used w l) (subst (ConditionSound s.records (worker_at s w).hand (worker_at s w).pending) e (h.workers w l).place))
+  on_sound w l None e = h
+  on_sound w l (Some o) e = settle-sound w o l _ (unfold lists_of in decide_good (tables_of s) h.shared (lists_of s w (worker_at s w)) o (worker_at s w).hand (h.workers w l).hand (top_used w l) (subst (ConditionSound s.records (worker_at s w).hand (worker_at s w).pending) e (h.workers w l).place))
 
   pub step_sound : (w : ℕ) → Sound (step_of s w).world
   unfolding step_of
-  step_sound w = fork (λ (r : Left). Sound r.world) (ltb w (totals_of s).p) (λ l. on_sound w (ltb-true _ _ l) (worker_at s w).condition refl) (λ l. h)
+  step_sound w = fork (λ (r : Left). Sound r.world) (ltb w (totals_of s).p) (λ l. on_sound w (ltb-true _ _ l) (worker_at s w).operation refl) (λ l. h)
 
   pub turn_sound : (w : ℕ) → Sound (turn_of s w).world
   unfolding turn_of
@@ -61,10 +58,10 @@ module _ (s : World) (h : Sound s) where
         (λ e. h.workers u m);
   }
 
-  begin-sound : (w : ℕ) (o : Operation) (c : Condition) → w < (totals_of s).p → Fresh o → Sound (begin s w (worker_at s w) o c).world
+  begin-sound : (w : ℕ) (o : Operation) (c : Option Operation) → w < (totals_of s).p → Fresh o → Sound (begin s w (worker_at s w) o c).world
   unfolding begin
-  begin-sound w o Idle l f = started-sound w o l f
-  begin-sound w o (Busy old) l f = h
+  begin-sound w o None l f = started-sound w o l f
+  begin-sound w o (Some old) l f = h
 
   pub start_sound : (w : ℕ) (o : Operation) → Fresh o → Sound (start_of s w o).world
   unfolding start_of

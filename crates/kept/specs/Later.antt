@@ -1,5 +1,5 @@
 -- Used counts and Counter never fall, sizes stay: what is sound of a number stays sound.
-use Rattle.std.specs.Prelude.{ℕ, ◌≤◌, ◌<◌, ◌≡◌, refl, List, eqb}
+use Rattle.std.specs.Prelude.{ℕ, ◌≤◌, ◌<◌, ◌≡◌, refl, List, eqb, Option, None, Some}
 use Rattle.std.proofs.Common.{ap, ◌∙◌, inl, inr, arith}
 use Rattle.shapes.specs.declared.NodeNo.{NodeNo}
 use Rattle.shapes.specs.declared.RecordNo.{RecordNo}
@@ -9,13 +9,10 @@ use Rattle.shapes.specs.declared.Filling.{Filling}
 use Rattle.shapes.specs.declared.Totals.{Totals}
 use Rattle.shapes.specs.declared.Locals.{Locals}
 use Rattle.shapes.specs.declared.Worker.{Worker}
-use Rattle.shapes.specs.declared.MaybeNode.{MaybeNode}
-use Rattle.shapes.specs.declared.MaybeNode.TheVariants.{Absent, At}
 use Rattle.shapes.specs.declared.Place.{Place}
 use Rattle.shapes.specs.declared.Place.TheVariants as place
 use Rattle.shapes.specs.declared.Operation.TheVariants.{Insert, Delete, Find, Scan}
-use Rattle.shapes.specs.declared.Condition.{Condition}
-use Rattle.shapes.specs.declared.Condition.TheVariants.{Idle, Busy}
+use Rattle.shapes.specs.declared.Operation.{Operation}
 use Rattle.tables.specs.Nodes.{is_internal}
 use Rattle.tables.specs.NodeWrites.{Fixed, fixed_at}
 use Rattle.tables.specs.Records.{count_at}
@@ -37,9 +34,9 @@ module _ {t u : Totals} (g : Grows t u) where
   pub word-later : {x : Update} → WordSound t x → WordSound u x
   word-later h = record { type = h.type; info = omega (arith, h.info, g.records) }
 
-  pub maybe_later : (x : MaybeNode) → MaybeSound t x → MaybeSound u x
-  maybe_later Absent h = h
-  maybe_later (At x) h = omega (arith, g.nodes)
+  pub maybe_later : (x : Option NodeNo) → MaybeSound t x → MaybeSound u x
+  maybe_later None h = h
+  maybe_later (Some x) h = omega (arith, g.nodes)
 
   pub node-later : {n : ℕ} {f : Fixed} {left right : NodeNo} {x : Update} → NodeSound t n f left right x → NodeSound u n f left right x
   node-later h = record { kind = h.kind; rank = h.rank; phase = omega (arith, h.phase, g.counter); prev = h.prev; update = word-later h.update; parents = λ e. (omega (arith, (h.parents e).0, g.nodes), omega (arith, (h.parents e).1, g.nodes)); leaves = h.leaves }
@@ -125,12 +122,12 @@ module _ (s u : Tables) (g : Later s u) where
   within-later k v n place.Child141 i h = h
   within-later k v n place.Left144 i h = h
 
-  place_later : (v : Locals) (n : ℕ) (c : Condition) → v.info.0 < s.totals.records → ConditionSound s.records v n c → ConditionSound u.records v n c
-  place_later v n Idle i h = h
-  place_later v n (Busy (Insert k q)) i h = (h.0, within-later _ v n q i h.1)
-  place_later v n (Busy (Delete k q)) i h = (h.0, within-later _ v n q i h.1)
-  place_later v n (Busy (Find k q)) i h = (h.0, within-later _ v n q i h.1)
-  place_later v n (Busy (Scan a b q)) i h = (h.0, within-later _ v n q i h.1)
+  place_later : (v : Locals) (n : ℕ) (c : Option Operation) → v.info.0 < s.totals.records → ConditionSound s.records v n c → ConditionSound u.records v n c
+  place_later v n None i h = h
+  place_later v n (Some (Insert k q)) i h = (h.0, within-later _ v n q i h.1)
+  place_later v n (Some (Delete k q)) i h = (h.0, within-later _ v n q i h.1)
+  place_later v n (Some (Find k q)) i h = (h.0, within-later _ v n q i h.1)
+  place_later v n (Some (Scan a b q)) i h = (h.0, within-later _ v n q i h.1)
 
   -- a worker that took no turn
   pub worker_later : (pending later : ℕ → NodeNo) (k : Worker) → ((i : ℕ) → i < k.pending → later i ≡ pending i) → WorkerSound s.totals s.records pending k → WorkerSound u.totals u.records later k
@@ -139,5 +136,5 @@ module _ (s u : Tables) (g : Later s u) where
     most_found = omega (arith, h.most_found, g.totals.n);
     pending_used = λ i l. rw (same i l) (omega (arith, h.pending_used i l, g.totals.nodes));
     hand = hand-later g.totals h.hand;
-    place = place_later k.hand k.pending k.condition h.hand.info h.place;
+    place = place_later k.hand k.pending k.operation h.hand.info h.place;
   }

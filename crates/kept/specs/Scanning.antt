@@ -1,6 +1,6 @@
 -- Every turn of a scan is a good decision.
 use Prim.Native.Nat.{ℕ, zero, suc, ◌+◌, ◌-◌, ◌<◌}
-use Rattle.std.specs.Prelude.{◌≡◌, Bool}
+use Rattle.std.specs.Prelude.{◌≡◌, Bool, Option, None, Some}
 use Rattle.std.proofs.Math.Path.{refl}
 use Rattle.std.proofs.Math.Bool.{true, false}
 use Rattle.std.proofs.lemmas.Bool.{false≢true, eqb-false}
@@ -10,8 +10,6 @@ use Rattle.laws.specs.Choice.{pick}
 use Rattle.shapes.specs.declared.NodeNo.{NodeNo}
 use Rattle.shapes.specs.declared.Key.{Key}
 use Rattle.shapes.specs.declared.Locals.{Locals}
-use Rattle.shapes.specs.declared.MaybeNode.{MaybeNode}
-use Rattle.shapes.specs.declared.MaybeNode.TheVariants.{At}
 use Rattle.shapes.specs.declared.HelpStep.TheVariants.{Counter111}
 use Rattle.shapes.specs.declared.Back.{Back}
 use Rattle.shapes.specs.declared.Back.TheVariants.{Own, Again, Node}
@@ -20,10 +18,8 @@ use Rattle.shapes.specs.declared.Place.TheVariants as place
 use Rattle.shapes.specs.declared.Effect.TheVariants as effect
 use Rattle.shapes.specs.declared.PendingChange.{PendingChange}
 use Rattle.shapes.specs.declared.PendingChange.TheVariants as pending
-use Rattle.shapes.specs.declared.FoundChange.{FoundChange}
-use Rattle.shapes.specs.declared.FoundChange.TheVariants as found
 use Rattle.shapes.specs.declared.Answer.TheVariants.{NoPhase}
-use Rattle.shapes.specs.declared.Decision.{Decision}
+use Rattle.shapes.specs.Outcomes.{Decision}
 use Rattle.tables.specs.Names.{root, dummy}
 use Rattle.tables.specs.World.{Tables}
 use Rattle.sound.specs.Homes.{is_node, scan_home, in_list}
@@ -47,7 +43,7 @@ module _ (s : Tables) (h : TablesSound s) (v : Locals) (hand : HandSound s.total
   if : (b : Bool) (x y : Decision) → (b ≡ true → G x) → (b ≡ false → G y) → G (pick b x y)
   if = good_pick s h scan_home 0 ls.pending ls.found
 
-  with-node : (m : MaybeNode) (g : NodeNo → Decision) → ((x : NodeNo) → m ≡ At x → G (g x)) → G (through m g)
+  with-node : (m : Option NodeNo) (g : NodeNo → Decision) → ((x : NodeNo) → m ≡ Some x → G (g x)) → G (through m g)
   with-node = good_through s h scan_home 0 ls.pending ls.found
 
   no_record : dummy.0 < s.totals.records
@@ -67,7 +63,7 @@ module _ (s : Tables) (h : TablesSound s) (v : Locals) (hand : HandSound s.total
   word_good : G (word139 s.nodes v)
   unfolding word139 scan_home
   word_good = with-node _ _ (λ x e.
-      let p = (parent_at s h (At v.p) x e hand.p).1 in
+      let p = (parent_at s h (Some v.p) x e hand.p).1 in
       good_goes s h scan_home 0 ls.pending ls.found _ place.State140 (hand_bare s h v.seq x _ hand.seq p.used (h.nodes x.0 p.used).update.info) (refl, tt))
 
   state_good : G (state140 s.records v)
@@ -79,7 +75,7 @@ module _ (s : Tables) (h : TablesSound s) (v : Locals) (hand : HandSound s.total
   -- ---- the children
 
   module _ (g : Range) (same : g.seq ≡ v.seq) (change : PendingChange) (fits : PendingFits s.totals ls.pending change) (n : ℕ) (left : n ≡ pending_left ls.pending change) where
-    leaves_good : (add : FoundChange) (keys : ℕ) → FoundFits s.totals ls.found add → G (leaves g change add n keys)
+    leaves_good : (add : Option Key) (keys : ℕ) → FoundFits s.totals ls.found add → G (leaves g change add n keys)
     unfolding leaves scan_home apply
     leaves_good add keys ok = if _ _ _
         (λ _. record { fits = tt; hand = hand-blank s h; pending = fits; found = ok; next = tt })
@@ -93,7 +89,7 @@ module _ (s : Tables) (h : TablesSound s) (v : Locals) (hand : HandSound s.total
     unfolding comes_to scan_home apply
     comes_good c l = if _ _ _
         (λ _. record { fits = tt; hand = rw same (hand_bare s h v.seq c dummy hand.seq l no_record); pending = fits; found = tt; next = (refl, tt) })
-        (λ _. if _ _ _ (λ _. if _ _ _ (λ e. leaves_good _ _ (ltb-true _ _ e)) (λ _. tt)) (λ _. leaves_good found.Keep _ tt))
+        (λ _. if _ _ _ (λ _. if _ _ _ (λ e. leaves_good _ _ (ltb-true _ _ e)) (λ _. tt)) (λ _. leaves_good None _ tt))
 
     reads_good : (x : NodeNo) (side : Bool) → Parent s x → G (reads s.totals s.nodes g ls.found change n x side)
     unfolding reads
@@ -102,14 +98,14 @@ module _ (s : Tables) (h : TablesSound s) (v : Locals) (hand : HandSound s.total
   child_good : (g : Range) → g.seq ≡ v.seq → G (child141 s.totals s.nodes g ls v)
   unfolding child141 pending_left
   child_good g same = with-node _ _ (λ x e.
-      let p = (parent_at s h (At v.p) x e hand.p).1 in
+      let p = (parent_at s h (Some v.p) x e hand.p).1 in
       if _ _ _ (λ _. reads_good g same pending.Keep tt ls.pending refl x false p)
       (λ _. if _ _ _ (λ _. reads_good g same pending.Keep tt ls.pending refl x true p)
       (λ _. if _ _ _ (λ l. reads_good g same (pending.Push x) (ltb-true _ _ l, p.used) (ls.pending + 1) refl x false p) (λ _. tt))))
 
   left_good : (g : Range) → g.seq ≡ v.seq → 0 < ls.pending → G (left144 s.totals s.nodes g ls)
   unfolding left144 pending_left
-  left_good g same l = with-node _ _ (λ x e. reads_good g same pending.Pop tt (ls.pending - 1) refl x true (parent_at s h (At ls.top) x e (top l)).1)
+  left_good g same l = with-node _ _ (λ x e. reads_good g same pending.Pop tt (ls.pending - 1) refl x true (parent_at s h (Some ls.top) x e (top l)).1)
 
   -- ---- HELP
 

@@ -1,6 +1,6 @@
 -- A good step of one worker keeps sound tables sound.
 use Prim.Native.Nat.{ℕ, zero, suc, ◌+◌, ◌-◌, ◌≤◌, ◌<◌}
-use Rattle.std.specs.Prelude.{◌≡◌, ◌≢◌, List, Bool, true, get_or}
+use Rattle.std.specs.Prelude.{◌≡◌, ◌≢◌, List, Bool, true, get_or, Option, None, Some}
 use Rattle.std.proofs.Math.Path.{refl, ap}
 use native.Mathlib.Omega.{arith}
 use Rattle.std.proofs.Math.Decide.{dec_le}
@@ -14,11 +14,10 @@ use Rattle.shapes.specs.declared.Operation.{Operation}
 use Rattle.shapes.specs.declared.Operation.TheVariants.{Insert, Delete, Find, Scan}
 use Rattle.shapes.specs.declared.PendingChange.{PendingChange}
 use Rattle.shapes.specs.declared.PendingChange.TheVariants as pending
-use Rattle.shapes.specs.declared.FoundChange.{FoundChange}
-use Rattle.shapes.specs.declared.FoundChange.TheVariants as found
 use Rattle.shapes.specs.declared.Next.{Next}
 use Rattle.shapes.specs.declared.Next.TheVariants as next
 use Rattle.shapes.specs.declared.Step.{Step}
+use Rattle.shapes.specs.declared.Key.{Key}
 use Rattle.tables.specs.Names.{node}
 use Rattle.tables.specs.World.{Tables, World, totals_of, tables_of, idle, worker_at, spot, pending_at}
 use Rattle.sound.specs.Homes.{listed, attempt_home, scan_home}
@@ -114,9 +113,9 @@ module _ (s : World) (h : Sound s) (w : ℕ) (in_p : w < (totals_of s).p) (o : O
   most_kept : found_left (worker_at s w).found d.found ≤ (totals_of s).n
   most_kept = by d.found good.found
     where
-      by : (c : FoundChange) → FoundFits (totals_of s) (worker_at s w).found c → found_left (worker_at s w).found c ≤ (totals_of s).n
-      by found.Keep p = unfold found_left in before.most_found
-      by (found.Add k) p = unfold found_left in omega arith
+      by : (c : Option Key) → FoundFits (totals_of s) (worker_at s w).found c → found_left (worker_at s w).found c ≤ (totals_of s).n
+      by None p = unfold found_left in before.most_found
+      by (Some k) p = unfold found_left in omega arith
 
   -- the worker itself
   own_sound : WorkerSound (apply d.effect (tables_of s)).totals (apply d.effect (tables_of s)).records (pending_at (settled s w (worker_at s w) o d) w) (worker_next (worker_at s w) o d d.next)

@@ -1,13 +1,12 @@
 -- A list with one place changed, and the places of one worker's lists among those of all.
-use Rattle.std.specs.Prelude.{ℕ, suc, ◌+◌, ◌*◌, ◌-◌, ◌≤◌, ◌<◌, ◌≡◌, refl, ◌≢◌, List, length, get_or, set, ℤ}
+use Rattle.std.specs.Prelude.{ℕ, suc, ◌+◌, ◌*◌, ◌-◌, ◌≤◌, ◌<◌, ◌≡◌, refl, ◌≢◌, List, length, get_or, set, ℤ, Option, None, Some}
 use Rattle.std.proofs.Common.{sym, ap, subst, arith, mul-le-mul_right, length-set, get_or-set_same, get_or-set_other}
 use Rattle.std.proofs.Math.Decide.{dec_le, ℕ_discrete}
 use Rattle.std.proofs.Math.Seq.{set_out}
 use Rattle.shapes.specs.declared.Totals.{Totals}
 use Rattle.shapes.specs.declared.PendingChange.{PendingChange}
 use Rattle.shapes.specs.declared.PendingChange.TheVariants as pending
-use Rattle.shapes.specs.declared.FoundChange.{FoundChange}
-use Rattle.shapes.specs.declared.FoundChange.TheVariants as found
+use Rattle.shapes.specs.declared.Key.{Key}
 use Rattle.tables.specs.Rows.{place_other}
 use Rattle.tables.specs.World.{spot}
 use Rattle.steps.specs.Turn.{pushed, added}
@@ -28,10 +27,10 @@ length-pushed l i pending.Keep = refl
 length-pushed l i (pending.Push x) = length-set l i x.0
 length-pushed l i pending.Pop = refl
 
-pub length-added : (l : List ℤ) (i : ℕ) (c : FoundChange) → length (added l i c) ≡ length l
+pub length-added : (l : List ℤ) (i : ℕ) (c : Option Key) → length (added l i c) ≡ length l
 unfolding added
-length-added l i found.Keep = refl
-length-added l i (found.Add k) = length-set l i _
+length-added l i None = refl
+length-added l i (Some k) = length-set l i _
 
 -- a place of worker w's list lies within the lent list, and in no other worker's
 pub spot-within : (t : Totals) (w i len : ℕ) → w < t.p → i < t.n → t.p * t.n ≤ len → spot t w i < len

@@ -1,5 +1,5 @@
 -- Nodes and a record taken: the tables stay sound.
-use Rattle.std.specs.Prelude.{ℕ, suc, ◌+◌, ◌<◌, ◌≡◌, refl, ◌≢◌, List, true, false, ltb}
+use Rattle.std.specs.Prelude.{ℕ, suc, ◌+◌, ◌<◌, ◌≡◌, refl, ◌≢◌, List, true, false, ltb, Option, None, Some}
 use Rattle.std.proofs.Math.Path.{sym, ap, subst}
 use Rattle.std.proofs.Common.{◌∙◌, add-one}
 use Rattle.std.proofs.Math.Logic.{inl}
@@ -11,8 +11,6 @@ use Rattle.shapes.specs.declared.Key.{Key}
 use Rattle.shapes.specs.declared.Rank.{Rank}
 use Rattle.shapes.specs.declared.Filling.{Filling}
 use Rattle.shapes.specs.declared.Totals.{Totals}
-use Rattle.shapes.specs.declared.MaybeNode.{MaybeNode}
-use Rattle.shapes.specs.declared.MaybeNode.TheVariants.{Absent, At}
 use Rattle.tables.specs.Names.{node, record_no, root, dummy, finite, value, fresh_word}
 use Rattle.tables.specs.Rows.{HasRows}
 use Rattle.tables.specs.Nodes.{node_width, kind_at, rank_at, child_at, update_at, new_node}
@@ -29,7 +27,7 @@ use Rattle.kept.specs.Writes.{NodesSound, same_or_other, count_of}
 -- ---- nodes and a record taken
 
 -- one node more, made of sound parts
-module _ (t : Totals) (ns : List ℕ) (u rows kind : ℕ) (k : Rank) (q : Phase) (prev : MaybeNode) (left right : NodeNo) (has : HasRows node_width ns rows) (room : u < rows) where
+module _ (t : Totals) (ns : List ℕ) (u rows kind : ℕ) (k : Rank) (q : Phase) (prev : Option NodeNo) (left right : NodeNo) (has : HasRows node_width ns rows) (room : u < rows) where
   pub nodes_new : NodesSound t ns u → NodeSound t u (record { kind = kind; rank = k; phase = q.0; prev = prev }) left right fresh_word → NodesSound t (new_node ns (node u) kind k q prev left right) (suc u)
   nodes_new old new n l = same_or_other u (λ n. n < suc u → NodeSound t n (fixed_at (new_node ns (node u) kind k q prev left right) (node n)) (child_at (new_node ns (node u) kind k q prev left right) (node n) true) (child_at (new_node ns (node u) kind k q prev left right) (node n) false) (update_at (new_node ns (node u) kind k q prev left right) (node n)))
       (λ l. rw (fixed_new_node_same ns (node u) kind k q prev left right rows has room, child_new_node-left ns (node u) kind k q prev left right rows has room, child_new_node_right ns (node u) kind k q prev left right rows has room, update-new_node_same ns (node u) kind k q prev left right rows has room) new)
@@ -85,11 +83,11 @@ module _ (s : Tables) (h : TablesSound s) (k : Key) (l : NodeNo) (q : Phase) (ro
   grows_three : Grows s.totals (taken s.totals 3)
   grows_three = grows_taken s h 3 q room
 
-  leaf_sound : (n : ℕ) (b : Rank) → RankSound b → NodeSound (taken s.totals 3) n (record { kind = 0; rank = b; phase = q.0; prev = Absent }) root root fresh_word
+  leaf_sound : (n : ℕ) (b : Rank) → RankSound b → NodeSound (taken s.totals 3) n (record { kind = 0; rank = b; phase = q.0; prev = None }) root root fresh_word
   unfolding taken
   leaf_sound n b r = record { kind = omega arith; rank = r; phase = room.phase; prev = tt; update = record { type = omega arith; info = omega arith }; parents = λ e. absurd (omega arith); leaves = λ ne. (refl, refl) }
 
-  top_sound : (b : Rank) (x y : NodeNo) → RankSound b → x.0 < s.totals.nodes + 2 → y.0 < s.totals.nodes + 2 → NodeSound (taken s.totals 3) (s.totals.nodes + 2) (record { kind = 1; rank = b; phase = q.0; prev = At l }) x y fresh_word
+  top_sound : (b : Rank) (x y : NodeNo) → RankSound b → x.0 < s.totals.nodes + 2 → y.0 < s.totals.nodes + 2 → NodeSound (taken s.totals 3) (s.totals.nodes + 2) (record { kind = 1; rank = b; phase = q.0; prev = Some l }) x y fresh_word
   unfolding taken
   top_sound b x y r i j = record { kind = omega arith; rank = r; phase = room.phase; prev = omega arith; update = record { type = omega arith; info = omega arith }; parents = λ e. (omega arith, omega arith); leaves = λ ne. absurd (ne refl) }
 
@@ -102,41 +100,41 @@ module _ (s : Tables) (h : TablesSound s) (k : Key) (l : NodeNo) (q : Phase) (ro
 
   -- the tables of nodes on the way
   one : List ℕ
-  one = new_node s.nodes (node s.totals.nodes) 0 (finite k) q Absent root root
+  one = new_node s.nodes (node s.totals.nodes) 0 (finite k) q None root root
 
   two : List ℕ
   unfolding one
-  two = new_node one (node (s.totals.nodes + 1)) 0 (rank_at s.nodes l) q Absent root root
+  two = new_node one (node (s.totals.nodes + 1)) 0 (rank_at s.nodes l) q None root root
 
   rows-one : HasRows node_width one s.totals.n
   unfolding one
-  rows-one = rows-new_node s.nodes (node s.totals.nodes) 0 (finite k) q Absent root root s.totals.n h.node-rows
+  rows-one = rows-new_node s.nodes (node s.totals.nodes) 0 (finite k) q None root root s.totals.n h.node-rows
 
   rows-two : HasRows node_width two s.totals.n
   unfolding two
-  rows-two = rows-new_node one (node (s.totals.nodes + 1)) 0 (rank_at s.nodes l) q Absent root root s.totals.n rows-one
+  rows-two = rows-new_node one (node (s.totals.nodes + 1)) 0 (rank_at s.nodes l) q None root root s.totals.n rows-one
 
   nodes_one : NodesSound (taken s.totals 3) one (s.totals.nodes + 1)
   unfolding one
-  nodes_one = rw (add-one s.totals.nodes) (nodes_new (taken s.totals 3) s.nodes s.totals.nodes s.totals.n 0 (finite k) q Absent root root h.node-rows (omega (arith, room.nodes)) (λ n i. node-later grows_three (h.nodes n i)) (leaf_sound _ (finite k) finite-sound))
+  nodes_one = rw (add-one s.totals.nodes) (nodes_new (taken s.totals 3) s.nodes s.totals.nodes s.totals.n 0 (finite k) q None root root h.node-rows (omega (arith, room.nodes)) (λ n i. node-later grows_three (h.nodes n i)) (leaf_sound _ (finite k) finite-sound))
 
   nodes_two : NodesSound (taken s.totals 3) two (s.totals.nodes + 2)
   unfolding two
-  nodes_two = subst (NodesSound (taken s.totals 3) _) (omega arith) (nodes_new (taken s.totals 3) one (s.totals.nodes + 1) s.totals.n 0 (rank_at s.nodes l) q Absent root root rows-one (omega (arith, room.nodes)) nodes_one (leaf_sound _ _ rank_of))
+  nodes_two = subst (NodesSound (taken s.totals 3) _) (omega arith) (nodes_new (taken s.totals 3) one (s.totals.nodes + 1) s.totals.n 0 (rank_at s.nodes l) q None root root rows-one (omega (arith, room.nodes)) nodes_one (leaf_sound _ _ rank_of))
 
   keeps_two : KeepsFixed s.totals.nodes s.nodes two
   unfolding two one
-  keeps_two y i = keeps_new (taken s.totals 3) one (s.totals.nodes + 1) s.totals.n 0 (rank_at s.nodes l) q Absent root root rows-one (omega (arith, room.nodes)) y (omega arith) ∙ keeps_new (taken s.totals 3) s.nodes s.totals.nodes s.totals.n 0 (finite k) q Absent root root h.node-rows (omega (arith, room.nodes)) y i
+  keeps_two y i = keeps_new (taken s.totals 3) one (s.totals.nodes + 1) s.totals.n 0 (rank_at s.nodes l) q None root root rows-one (omega (arith, room.nodes)) y (omega arith) ∙ keeps_new (taken s.totals 3) s.nodes s.totals.nodes s.totals.n 0 (finite k) q None root root h.node-rows (omega (arith, room.nodes)) y i
 
   -- any third node above the two
   module _ (b : Rank) (x y : NodeNo) (r : RankSound b) (i : x.0 < s.totals.nodes + 2) (j : y.0 < s.totals.nodes + 2) where
-    top_kept : HasRows node_width (new_node two (node (s.totals.nodes + 2)) 1 b q (At l) x y) s.totals.n
-        × KeepsFixed s.totals.nodes s.nodes (new_node two (node (s.totals.nodes + 2)) 1 b q (At l) x y)
-        × NodesSound (taken s.totals 3) (new_node two (node (s.totals.nodes + 2)) 1 b q (At l) x y) (s.totals.nodes + 3)
+    top_kept : HasRows node_width (new_node two (node (s.totals.nodes + 2)) 1 b q (Some l) x y) s.totals.n
+        × KeepsFixed s.totals.nodes s.nodes (new_node two (node (s.totals.nodes + 2)) 1 b q (Some l) x y)
+        × NodesSound (taken s.totals 3) (new_node two (node (s.totals.nodes + 2)) 1 b q (Some l) x y) (s.totals.nodes + 3)
     top_kept = (
-      rows-new_node two (node (s.totals.nodes + 2)) 1 b q (At l) x y s.totals.n rows-two,
-      (λ z c. keeps_new (taken s.totals 3) two (s.totals.nodes + 2) s.totals.n 1 b q (At l) x y rows-two (omega (arith, room.nodes)) z (omega arith) ∙ keeps_two z c),
-      subst (NodesSound (taken s.totals 3) _) (omega arith) (nodes_new (taken s.totals 3) two (s.totals.nodes + 2) s.totals.n 1 b q (At l) x y rows-two (omega (arith, room.nodes)) nodes_two (top_sound b x y r i j)),
+      rows-new_node two (node (s.totals.nodes + 2)) 1 b q (Some l) x y s.totals.n rows-two,
+      (λ z c. keeps_new (taken s.totals 3) two (s.totals.nodes + 2) s.totals.n 1 b q (Some l) x y rows-two (omega (arith, room.nodes)) z (omega arith) ∙ keeps_two z c),
+      subst (NodesSound (taken s.totals 3) _) (omega arith) (nodes_new (taken s.totals 3) two (s.totals.nodes + 2) s.totals.n 1 b q (Some l) x y rows-two (omega (arith, room.nodes)) nodes_two (top_sound b x y r i j)),
     )
 
   pub three_kept : HasRows node_width (three_nodes s.nodes s.totals.nodes k l q) s.totals.n
@@ -149,7 +147,7 @@ module _ (s : Tables) (h : TablesSound s) (k : Key) (l : NodeNo) (q : Phase) (ro
 
 -- line 185
 module _ (s : Tables) (h : TablesSound s) (sibling p : NodeNo) (q : Phase) (room : Room s 1 q) (used : sibling.0 < s.totals.nodes) (above : p.0 < s.totals.nodes) where
-  copy_sound : NodeSound (taken s.totals 1) s.totals.nodes (record { kind = kind_at s.nodes sibling; rank = rank_at s.nodes sibling; phase = q.0; prev = At p }) root root fresh_word
+  copy_sound : NodeSound (taken s.totals 1) s.totals.nodes (record { kind = kind_at s.nodes sibling; rank = rank_at s.nodes sibling; phase = q.0; prev = Some p }) root root fresh_word
   unfolding taken fixed_at
   copy_sound =
       record { kind = (h.nodes sibling.0 used).kind; rank = (h.nodes sibling.0 used).rank; phase = room.phase; prev = above; update = record { type = omega arith; info = omega arith }; parents = λ e. (omega (arith, h.used.least_nodes), omega (arith, h.used.least_nodes)); leaves = λ ne. (refl, refl) }
@@ -159,9 +157,9 @@ module _ (s : Tables) (h : TablesSound s) (sibling p : NodeNo) (q : Phase) (room
       × NodesSound (taken s.totals 1) (copy_of s.nodes s.totals.nodes sibling p q) (s.totals.nodes + 1)
   unfolding copy_of
   copy_kept = (
-    rows-new_node s.nodes (node s.totals.nodes) _ _ q (At p) root root s.totals.n h.node-rows,
-    keeps_new (taken s.totals 1) s.nodes s.totals.nodes s.totals.n _ _ q (At p) root root h.node-rows (omega (arith, room.nodes)),
-    rw (add-one s.totals.nodes) (nodes_new (taken s.totals 1) s.nodes s.totals.nodes s.totals.n _ _ q (At p) root root h.node-rows (omega (arith, room.nodes)) (λ n i. node-later (grows_taken s h 1 q room) (h.nodes n i)) copy_sound),
+    rows-new_node s.nodes (node s.totals.nodes) _ _ q (Some p) root root s.totals.n h.node-rows,
+    keeps_new (taken s.totals 1) s.nodes s.totals.nodes s.totals.n _ _ q (Some p) root root h.node-rows (omega (arith, room.nodes)),
+    rw (add-one s.totals.nodes) (nodes_new (taken s.totals 1) s.nodes s.totals.nodes s.totals.n _ _ q (Some p) root root h.node-rows (omega (arith, room.nodes)) (λ n i. node-later (grows_taken s h 1 q room) (h.nodes n i)) copy_sound),
   )
 
 pub grows_bump : (s : Tables) → Grows s.totals (bumped s.totals)

@@ -1,5 +1,5 @@
 -- A turn changes at most one changeable word of what was used before it; all that it creates is new.
-use Rattle.std.specs.Prelude.{ℕ, ◌+◌, ◌≤◌, ◌<◌, ◌≡◌, refl, ◌≢◌, List, Bool, true, false, ltb}
+use Rattle.std.specs.Prelude.{ℕ, ◌+◌, ◌≤◌, ◌<◌, ◌≡◌, refl, ◌≢◌, List, Bool, true, false, ltb, Option, None, Some}
 use Rattle.std.proofs.Common.{ap, ◌∙◌, arith}
 use Rattle.std.proofs.Math.Decide.{ℕ_discrete}
 use Rattle.laws.specs.Choice.{fork}
@@ -9,8 +9,6 @@ use Rattle.shapes.specs.declared.Phase.{Phase}
 use Rattle.shapes.specs.declared.Key.{Key}
 use Rattle.shapes.specs.declared.Rank.{Rank}
 use Rattle.shapes.specs.declared.Update.{Update}
-use Rattle.shapes.specs.declared.MaybeNode.{MaybeNode}
-use Rattle.shapes.specs.declared.MaybeNode.TheVariants.{Absent, At}
 use Rattle.shapes.specs.declared.Effect.{Effect}
 use Rattle.shapes.specs.declared.Effect.TheVariants as effect
 use Rattle.tables.specs.Names.{node, record_no, root, finite, value, update}
@@ -64,7 +62,7 @@ module _ (ns ms : List ℕ) (u : ℕ) where
   abbrev Same : Type 0
   Same = (y : NodeNo) → y.0 < u → ((left : Bool) → child_at ms y left ≡ child_at ns y left) × (update_at ms y ≡ update_at ns y)
 
-new_same : (ns : List ℕ) (u j kind : ℕ) (k : Rank) (q : Phase) (prev : MaybeNode) (left right : NodeNo) → u ≤ j → Same ns (new_node ns (node j) kind k q prev left right) u
+new_same : (ns : List ℕ) (u j kind : ℕ) (k : Rank) (q : Phase) (prev : Option NodeNo) (left right : NodeNo) → u ≤ j → Same ns (new_node ns (node j) kind k q prev left right) u
 new_same ns u j kind k q prev left right le y l =
     let ne : y.0 ≢ j = λ e. omega arith in
     (child_new_node-node ns (node j) kind k q prev left right y ne, update-new_node-node ns (node j) kind k q prev left right y ne)
@@ -76,12 +74,12 @@ three_same : (ns : List ℕ) (u : ℕ) (k : Key) (l : NodeNo) (q : Phase) → Sa
 unfolding three_nodes top_of
 three_same ns u k l q = fork (λ ms. Same ns ms u) (ltb k.0 (value (rank_at ns l))) (λ _. all _ _ _) (λ _. all _ _ _)
   where
-    all : (b : Rank) (x y : NodeNo) → Same ns (new_node (new_node (new_node ns (node u) 0 (finite k) q Absent root root) (node (u + 1)) 0 (rank_at ns l) q Absent root root) (node (u + 2)) 1 b q (At l) x y) u
-    all b x y = same_then _ _ _ u (same_then _ _ _ u (new_same ns u u 0 (finite k) q Absent root root (omega arith)) (new_same _ u (u + 1) 0 (rank_at ns l) q Absent root root (omega arith))) (new_same _ u (u + 2) 1 b q (At l) x y (omega arith))
+    all : (b : Rank) (x y : NodeNo) → Same ns (new_node (new_node (new_node ns (node u) 0 (finite k) q None root root) (node (u + 1)) 0 (rank_at ns l) q None root root) (node (u + 2)) 1 b q (Some l) x y) u
+    all b x y = same_then _ _ _ u (same_then _ _ _ u (new_same ns u u 0 (finite k) q None root root (omega arith)) (new_same _ u (u + 1) 0 (rank_at ns l) q None root root (omega arith))) (new_same _ u (u + 2) 1 b q (Some l) x y (omega arith))
 
 copy_same : (ns : List ℕ) (u : ℕ) (x p : NodeNo) (q : Phase) → Same ns (copy_of ns u x p q) u
 unfolding copy_of
-copy_same ns u x p q = new_same ns u u _ _ q (At p) root root (omega arith)
+copy_same ns u x p q = new_same ns u u _ _ q (Some p) root root (omega arith)
 
 taken_same : (rs : List ℕ) (u : ℕ) (r : RecordNo) → r.0 < u → state_at (taken_record rs u) r ≡ state_at rs r
 unfolding taken_record

@@ -5,7 +5,7 @@ ghost use Rattle.std.specs.Prelude.{◌≡◌};
 ghost use Rattle.tables.specs.World.{tables};
 ghost use Rattle.steps.specs.Attempt.{held, link_next, link_step, sibling182};
 
-use shapes::{Decision, Key, Link, LinkMove, LinkStep, Locals, MaybeNode, Place, Totals};
+use shapes::{Decision, Key, Link, LinkMove, LinkStep, Locals, Place, Totals};
 use tables::ROOT;
 
 // A link that holds: lines 65 and 66, 184, 188 and 190.
@@ -33,15 +33,15 @@ fn held(totals: Totals, nodes: &[u32], v: Locals, a: Link) -> Decision
     }
 }
 
-fn link_next(totals: Totals, nodes: &[u32], v: Locals, a: Link, m: LinkMove) -> Decision
+fn link_next(totals: Totals, nodes: &[u32], v: Locals, a: Link, m: Option<LinkMove>) -> Decision
     ensures { result ≡ link_next totals nodes.now v a m }
 {
     match m {
-        LinkMove::Crooked => Decision::Crooked,
-        LinkMove::Goes(s, u) => hand::go_to(hand::with_up(v, u), Place::Link(a, s)),
-        LinkMove::Helps(r) => hand::help_then_retry(r),
-        LinkMove::Fails => hand::retry(),
-        LinkMove::Holds => held(totals, nodes, v, a),
+        None => None,
+        Some(LinkMove::Goes(s, u)) => hand::go_to(hand::with_up(v, u), Place::Link(a, s)),
+        Some(LinkMove::Helps(r)) => hand::help_then_retry(r),
+        Some(LinkMove::Fails) => hand::retry(),
+        Some(LinkMove::Holds) => held(totals, nodes, v, a),
     }
 }
 
@@ -69,12 +69,12 @@ pub fn sibling182(totals: Totals, nodes: &[u32], v: Locals) -> Decision
 {
     let at = v.p;
     let seq = v.seq;
-    let MaybeNode::At(p) = fields::as_parent(nodes, MaybeNode::At(at)) else {
-        return Decision::Crooked;
+    let Some(p) = fields::as_parent(nodes, Some(at)) else {
+        return None;
     };
     let left = seek::sibling_left(nodes, v);
-    let MaybeNode::At(c) = fields::read_child(totals.nodes, nodes, p, left, seq) else {
-        return Decision::Crooked;
+    let Some(c) = fields::read_child(totals.nodes, nodes, p, left, seq) else {
+        return None;
     };
     hand::go_to(
         hand::with_sibling(v, c),

@@ -1,4 +1,5 @@
 -- How the walk goes on to its children, what its two parts write one behind the other, and that its places fit.
+use Rattle.std.specs.Prelude.{None, Some}
 use Prim.Native.Nat.{ℕ, zero, suc, ◌+◌, ◌-◌, ◌≤◌}
 use native.Mathlib.Omega.{arith}
 use mathlib.Core.Path.{◌≡◌, refl}
@@ -11,7 +12,6 @@ use borrow.Author.Tests.{eq-eqb, ne_eqb}
 use Rattle.laws.specs.Choice.{pick}
 use Rattle.shapes.specs.declared.NodeNo.{NodeNo}
 use Rattle.shapes.specs.declared.Phase.{Phase}
-use Rattle.shapes.specs.declared.MaybeNode.TheVariants.{Absent, At}
 use Rattle.tables.specs.Names.{number_of}
 use Rattle.tables.specs.Nodes.{is_internal, rank_at}
 use Rattle.tables.specs.Versions.{read_child}
@@ -38,11 +38,11 @@ module _ (used : ℕ) (ns : List ℕ) (i : Phase) (x : NodeNo) (leaves : ℕ) wh
   goes_down zero h k = absurd (k refl)
   goes_down (suc levels) h k = let e : suc levels - 1 ≡ levels = omega arith in rw (h, e) refl
 
-  pub left_lost : (levels : ℕ) → is_internal ns x ≡ true → (levels ≡ 0 → ⊥) → read_child used ns x true i ≡ Absent → walk levels used ns i x leaves ≡ crooked
+  pub left_lost : (levels : ℕ) → is_internal ns x ≡ true → (levels ≡ 0 → ⊥) → read_child used ns x true i ≡ None → walk levels used ns i x leaves ≡ crooked
   unfolding to_child
   left_lost levels h k e = rw (goes_down levels h k, e) refl
 
-  pub right_lost : (levels : ℕ) {a : NodeNo} → is_internal ns x ≡ true → (levels ≡ 0 → ⊥) → read_child used ns x true i ≡ At a → read_child used ns x false i ≡ Absent → walk levels used ns i x leaves ≡ crooked
+  pub right_lost : (levels : ℕ) {a : NodeNo} → is_internal ns x ≡ true → (levels ≡ 0 → ⊥) → read_child used ns x true i ≡ Some a → read_child used ns x false i ≡ None → walk levels used ns i x leaves ≡ crooked
   unfolding to_child
   right_lost levels h k e f = rw (goes_down levels h k, e, f) refl
 
@@ -70,7 +70,7 @@ into_then l at crooked next = refl
 into_then l at (walked leaves ks) next = into-behind l at ks (next leaves)
 
 -- with both children found, the left one's part and then the right one's, a level lower
-pub both_parts : (used : ℕ) (ns : List ℕ) (i : Phase) (x : NodeNo) (leaves levels : ℕ) {a b : NodeNo} → is_internal ns x ≡ true → (levels ≡ 0 → ⊥) → read_child used ns x true i ≡ At a → read_child used ns x false i ≡ At b → (l : List ℤ) (at : ℕ) → into l at (walk levels used ns i x leaves) ≡ onward (into l at (walk (levels - 1) used ns i a leaves)) (walk (levels - 1) used ns i b)
+pub both_parts : (used : ℕ) (ns : List ℕ) (i : Phase) (x : NodeNo) (leaves levels : ℕ) {a b : NodeNo} → is_internal ns x ≡ true → (levels ≡ 0 → ⊥) → read_child used ns x true i ≡ Some a → read_child used ns x false i ≡ Some b → (l : List ℤ) (at : ℕ) → into l at (walk levels used ns i x leaves) ≡ onward (into l at (walk (levels - 1) used ns i a leaves)) (walk (levels - 1) used ns i b)
 unfolding to_child
 both_parts used ns i x leaves levels h k e f l at = rw (goes_down used ns i x leaves levels h k, e, f) (into_then l at _ _)
 

@@ -5,7 +5,7 @@ ghost use Rattle.listing.specs.Listing.{at_leaf, walk};
 ghost use Rattle.lister.specs.Lists.{standing, into};
 
 use fields::{is_internal, number_of, put_key, rank_at, read_child};
-use shapes::{Key, MaybeNode, NodeNo, Phase};
+use shapes::{Key, NodeNo, Phase};
 
 // Crooked; or how many leaves may still be met, and the place of the next key.
 #[derive(Clone, Copy)]
@@ -50,10 +50,10 @@ pub fn walk(
     if levels == 0 {
         return Walking::Crooked;
     }
-    let MaybeNode::At(a) = read_child(used, nodes, x, true, i) else {
+    let Some(a) = read_child(used, nodes, x, true, i) else {
         return Walking::Crooked;
     };
-    let MaybeNode::At(b) = read_child(used, nodes, x, false, i) else {
+    let Some(b) = read_child(used, nodes, x, false, i) else {
         return Walking::Crooked;
     };
     let Walking::On(more, next) = walk(levels - 1, used, nodes, i, a, leaves, keys, at) else {

@@ -1,12 +1,10 @@
 -- A walk lists no more keys than leaves may be met: the keys met and the leaves that may still be met are no more than those at its start.
-use Rattle.std.specs.Prelude.{ℕ, zero, suc, ◌+◌, ◌≤◌, List, true, false, length, ℤ, eqb}
+use Rattle.std.specs.Prelude.{ℕ, zero, suc, ◌+◌, ◌≤◌, List, true, false, length, ℤ, eqb, Option, None, Some}
 use Rattle.std.proofs.Common.{arith, length-append}
 use Rattle.laws.specs.Choice.{fork}
 use Rattle.shapes.specs.declared.NodeNo.{NodeNo}
 use Rattle.shapes.specs.declared.Phase.{Phase}
 use Rattle.shapes.specs.declared.Rank.{Rank}
-use Rattle.shapes.specs.declared.MaybeNode.{MaybeNode}
-use Rattle.shapes.specs.declared.MaybeNode.TheVariants.{Absent, At}
 use Rattle.tables.specs.Nodes.{is_internal, rank_at}
 use Rattle.tables.specs.Versions.{read_child}
 use Rattle.listing.specs.Listing.{Walked, crooked, walked, leaf_keys, at_leaf, behind, and_then, to_child, walk}
@@ -35,10 +33,10 @@ unfolding Within and_then
 then_within n crooked next h k = tt
 then_within n (walked left ks) next h k = behind-within n left ks (next left) h (k left)
 
-child_within : (n : ℕ) (m : MaybeNode) (go : NodeNo → Walked) → ((c : NodeNo) → Within n (go c)) → Within n (to_child m go)
+child_within : (n : ℕ) (m : Option NodeNo) (go : NodeNo → Walked) → ((c : NodeNo) → Within n (go c)) → Within n (to_child m go)
 unfolding Within to_child
-child_within n Absent go h = tt
-child_within n (At c) go h = h c
+child_within n None go h = tt
+child_within n (Some c) go h = h c
 
 pub walk-within : (levels used : ℕ) (ns : List ℕ) (i : Phase) (x : NodeNo) (leaves : ℕ) → Within leaves (walk levels used ns i x leaves)
 unfolding walk

@@ -1,11 +1,9 @@
 -- 01, 'Version listing': the finite keys of the leaves reached from the Root through version-i children, from left to right.
-use Rattle.std.specs.Prelude.{ℕ, zero, suc, List, [], ◌∷◌, ◌++◌, true, false, ◌&&◌, length, drop, ℤ, leb, eqb}
+use Rattle.std.specs.Prelude.{ℕ, zero, suc, List, [], ◌∷◌, ◌++◌, true, false, ◌&&◌, length, drop, ℤ, leb, eqb, Option, None, Some}
 use Rattle.laws.specs.Choice.{pick}
 use Rattle.shapes.specs.declared.NodeNo.{NodeNo}
 use Rattle.shapes.specs.declared.Phase.{Phase}
 use Rattle.shapes.specs.declared.Rank.{Rank}
-use Rattle.shapes.specs.declared.MaybeNode.{MaybeNode}
-use Rattle.shapes.specs.declared.MaybeNode.TheVariants.{Absent, At}
 use Rattle.shapes.specs.declared.Refusal.{Refusal}
 use Rattle.shapes.specs.declared.Refusal.TheVariants as refusal
 use Rattle.tables.specs.Names.{root, number_of}
@@ -37,9 +35,9 @@ unfoldable pub and_then : Walked → (ℕ → Walked) → Walked
 and_then crooked next = crooked
 and_then (walked left ks) next = behind ks (next left)
 
-unfoldable pub to_child : MaybeNode → (NodeNo → Walked) → Walked
-to_child Absent go = crooked
-to_child (At c) go = go c
+unfoldable pub to_child : Option NodeNo → (NodeNo → Walked) → Walked
+to_child None go = crooked
+to_child (Some c) go = go c
 
 -- so many levels may still be gone down, and so many leaves met
 unfoldable pub walk : ℕ → ℕ → List ℕ → Phase → NodeNo → ℕ → Walked

@@ -1,5 +1,5 @@
 -- A turn inside VALIDATELINK decides by the one word that it looks at.
-use Rattle.std.specs.Prelude.{◌≡◌, Bool}
+use Rattle.std.specs.Prelude.{◌≡◌, Bool, Option, None, Some}
 use Rattle.std.proofs.Math.Path.{refl}
 use Rattle.std.proofs.Common.{ap}
 use Rattle.std.proofs.Math.Bool.{true, false}
@@ -7,8 +7,6 @@ use Rattle.laws.specs.Choice.{pick}
 use Rattle.shapes.specs.declared.NodeNo.{NodeNo}
 use Rattle.shapes.specs.declared.Key.{Key}
 use Rattle.shapes.specs.declared.Locals.{Locals}
-use Rattle.shapes.specs.declared.MaybeNode.{MaybeNode}
-use Rattle.shapes.specs.declared.MaybeNode.TheVariants.{Absent, At}
 use Rattle.shapes.specs.declared.Link.{Link}
 use Rattle.shapes.specs.declared.Link.TheVariants.{Leaf64, Parent65, Sibling183, Left187, Right188}
 use Rattle.shapes.specs.declared.LinkStep.{LinkStep}
@@ -32,16 +30,16 @@ module _ (s t : Tables) (a : Alike s t) (v : Locals) where
   same_side k Leaf64 = same_goes s t a v k v.p
   same_side k Parent65 = of v.gp
     where
-      of : (m : MaybeNode) → parent_left t.nodes k m ≡ parent_left s.nodes k m
-      of Absent = unfold parent_left in refl
-      of (At x) = unfold parent_left in same_goes s t a v k x
+      of : (m : Option NodeNo) → parent_left t.nodes k m ≡ parent_left s.nodes k m
+      of None = unfold parent_left in refl
+      of (Some x) = unfold parent_left in same_goes s t a v k x
   same_side k Sibling183 = same_sibling s t a v
   same_side k Left187 = refl
   same_side k Right188 = refl
 
-  same_of_copy : (left : Bool) → child_at t.nodes v.made left ≡ child_at s.nodes v.made left → copy_child t.nodes (as_parent t.nodes (At v.made)) left ≡ copy_child s.nodes (as_parent s.nodes (At v.made)) left
+  same_of_copy : (left : Bool) → child_at t.nodes v.made left ≡ child_at s.nodes v.made left → copy_child t.nodes (as_parent t.nodes (Some v.made)) left ≡ copy_child s.nodes (as_parent s.nodes (Some v.made)) left
   unfolding copy_child
-  same_of_copy left e = by_node s t a v.made (λ m. copy_child t.nodes m left) (λ m. copy_child s.nodes m left) refl (ap At e)
+  same_of_copy left e = by_node s t a v.made (λ m. copy_child t.nodes m left) (λ m. copy_child s.nodes m left) refl (ap Some e)
 
   same_link_child : (c : Link) → OwnCopy s t v (place.Link c Child57) → link_child t.nodes v c ≡ link_child s.nodes v c
   unfolding link_child pick
@@ -59,21 +57,21 @@ module _ (s t : Tables) (a : Alike s t) (v : Locals) where
       (by_parent s t a (link_parent v c) (λ m. child57 t.nodes m (link_child s.nodes v c) (link_left s.nodes k v c)) (λ m. child57 s.nodes m (link_child s.nodes v c) (link_left s.nodes k v c)) refl
       (λ x is. compared x (link_child s.nodes v c) (child_there s t _ x _ is e)))
     where
-      compared : (x : NodeNo) (m : MaybeNode) → child_at t.nodes x (link_left s.nodes k v c) ≡ child_at s.nodes x (link_left s.nodes k v c) → child57 t.nodes (At x) m (link_left s.nodes k v c) ≡ child57 s.nodes (At x) m (link_left s.nodes k v c)
-      compared x Absent e = unfold child57 in refl
-      compared x (At y) e = unfold child57 in rw e
+      compared : (x : NodeNo) (m : Option NodeNo) → child_at t.nodes x (link_left s.nodes k v c) ≡ child_at s.nodes x (link_left s.nodes k v c) → child57 t.nodes (Some x) m (link_left s.nodes k v c) ≡ child57 s.nodes (Some x) m (link_left s.nodes k v c)
+      compared x None e = unfold child57 in refl
+      compared x (Some y) e = unfold child57 in rw e
 
-  same_next : (c : Link) (m : LinkMove) → link_next t.totals t.nodes v c m ≡ link_next s.totals s.nodes v c m
+  same_next : (c : Link) (m : Option LinkMove) → link_next t.totals t.nodes v c m ≡ link_next s.totals s.nodes v c m
   unfolding link_next held
-  same_next c link.Crooked = refl
-  same_next c (link.Goes b u) = refl
-  same_next c (link.Helps r) = refl
-  same_next c link.Fails = refl
-  same_next Leaf64 link.Holds = refl
-  same_next Parent65 link.Holds = refl
-  same_next Sibling183 link.Holds = same_copy s t a v
-  same_next Left187 link.Holds = refl
-  same_next Right188 link.Holds = refl
+  same_next c None = refl
+  same_next c (Some (link.Goes b u)) = refl
+  same_next c (Some (link.Helps r)) = refl
+  same_next c (Some link.Fails) = refl
+  same_next Leaf64 (Some link.Holds) = refl
+  same_next Parent65 (Some link.Holds) = refl
+  same_next Sibling183 (Some link.Holds) = same_copy s t a v
+  same_next Left187 (Some link.Holds) = refl
+  same_next Right188 (Some link.Holds) = refl
 
   pub link-one : (k : Key) (c : Link) (b : LinkStep) → OwnCopy s t v (place.Link c b) → SameAt s t (link_looks s k v c b) → link_step t k v c b ≡ link_step s k v c b
   unfolding link_step

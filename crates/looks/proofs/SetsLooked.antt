@@ -1,5 +1,5 @@
 -- The word that a turn sets is the one that it looks at, or the worker's own (lines 102 and 185); from any tables.
-use Rattle.std.specs.Prelude.{ℕ, ◌≡◌, Bool}
+use Rattle.std.specs.Prelude.{ℕ, ◌≡◌, Bool, Option, None, Some}
 use Rattle.std.proofs.Math.Path.{refl}
 use Rattle.std.proofs.Math.Logic.{inl, inr}
 use Rattle.std.proofs.Math.Bool.{true, false}
@@ -35,7 +35,7 @@ use Rattle.looks.specs.Setting.{SetsOnly, Sets, SetsMove, either, with-node, as_
 -- ---- HELP: each CAS and each write is of the word looked at
 
 module _ (s : Tables) (r : RecordNo) (i : ℕ) (v : Locals) where
-  move_pick : (c : Changeable) (b : Bool) (x y : HelpMove) → SetsMove c v x → SetsMove c v y → SetsMove c v (pick b x y)
+  move_pick : (c : Changeable) (b : Bool) (x y : Option HelpMove) → SetsMove c v x → SetsMove c v y → SetsMove c v (pick b x y)
   move_pick c b x y p q = fork (SetsMove c v) b (λ _. p) (λ _. q)
 
   cas : (c : Changeable) (b : Bool) (x y : Effect) → touched x ≡ c → touched y ≡ none → SetsOnly c v (pick b x y)
@@ -55,13 +55,13 @@ module _ (s : Tables) (r : RecordNo) (i : ℕ) (v : Locals) where
   step_sets Abort126 = inr (inl refl)
   step_sets State127 = tt
 
-  next_sets : (c : Changeable) (b : Back) (m : HelpMove) → SetsMove c v m → Sets c v (help_next b v m)
+  next_sets : (c : Changeable) (b : Back) (m : Option HelpMove) → SetsMove c v m → Sets c v (help_next b v m)
   unfolding help_next back_to touched
-  next_sets c b help.Crooked h = tt
-  next_sets c b (help.Goes e j q) h = h
-  next_sets c Own (help.Done done) h = either c v _ _ _ (inl refl) (inl refl)
-  next_sets c Again (help.Done done) h = inl refl
-  next_sets c Node (help.Done done) h = inl refl
+  next_sets c b None h = tt
+  next_sets c b (Some (help.Goes e j q)) h = h
+  next_sets c Own (Some (help.Done done)) h = either c v _ _ _ (inl refl) (inl refl)
+  next_sets c Again (Some (help.Done done)) h = inl refl
+  next_sets c Node (Some (help.Done done)) h = inl refl
 
   help_sets : (b : HelpStep) (back : Back) → Sets (help_looks s r i b) v (help_next back v (help_of s r i b))
   unfolding help_of

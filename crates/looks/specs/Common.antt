@@ -1,6 +1,6 @@
 -- What tables that differ in changeable words only have in common, and what one equal word adds.
 use Prim.Native.Nat.{ℕ, zero, suc, ◌≤◌}
-use Rattle.std.specs.Prelude.{◌≡◌, Bool}
+use Rattle.std.specs.Prelude.{◌≡◌, Bool, Option, None, Some}
 use Rattle.std.proofs.Math.Path.{refl, ap}
 use Rattle.std.proofs.Common.{sym, ◌∙◌, subst, arith}
 use Rattle.std.proofs.Math.Bool.{true, false}
@@ -8,9 +8,7 @@ use Rattle.laws.specs.Choice.{pick}
 use Rattle.shapes.specs.declared.NodeNo.{NodeNo}
 use Rattle.shapes.specs.declared.RecordNo.{RecordNo}
 use Rattle.shapes.specs.declared.Phase.{Phase}
-use Rattle.shapes.specs.declared.MaybeNode.{MaybeNode}
-use Rattle.shapes.specs.declared.MaybeNode.TheVariants.{Absent, At}
-use Rattle.shapes.specs.declared.Decision.{Decision}
+use Rattle.shapes.specs.Outcomes.{Decision}
 use Rattle.tables.specs.Names.{node, phase, value}
 use Rattle.tables.specs.Nodes.{kind_at, is_internal, rank_at, key_at, phase_at, prev_at, child_at, update_at}
 use Rattle.tables.specs.NodeWrites.{fixed_at}
@@ -32,10 +30,10 @@ unfolding pick
 same_pick b true x y z w e f g = rw e (f refl)
 same_pick b false x y z w e f g = rw e (g refl)
 
-same_through : (m : MaybeNode) (f g : NodeNo → Decision) → ((x : NodeNo) → f x ≡ g x) → through m f ≡ through m g
+same_through : (m : Option NodeNo) (f g : NodeNo → Decision) → ((x : NodeNo) → f x ≡ g x) → through m f ≡ through m g
 unfolding through
-same_through Absent f g h = refl
-same_through (At x) f g h = h x
+same_through None f g h = refl
+same_through (Some x) f g h = h x
 
 -- ---- the word looked at, by its parts
 
@@ -60,11 +58,11 @@ module _ (s t : Tables) where
   same_state r e = ap (λ u. u.mark) e
 
   -- of a node that is there
-  pub word_there : (m : MaybeNode) (x : NodeNo) → m ≡ At x → SameAt (word_of m) → update_at t.nodes x ≡ update_at s.nodes x
+  pub word_there : (m : Option NodeNo) (x : NodeNo) → m ≡ Some x → SameAt (word_of m) → update_at t.nodes x ≡ update_at s.nodes x
   unfolding word_of
   word_there m x is e = same_word x (subst (λ n. SameAt (word_of n)) is e)
 
-  pub child_there : (m : MaybeNode) (x : NodeNo) (left : Bool) → m ≡ At x → SameAt (child_of m left) → child_at t.nodes x left ≡ child_at s.nodes x left
+  pub child_there : (m : Option NodeNo) (x : NodeNo) (left : Bool) → m ≡ Some x → SameAt (child_of m left) → child_at t.nodes x left ≡ child_at s.nodes x left
   unfolding child_of
   child_there m x left is e = same_child x left (subst (λ n. SameAt (child_of n left)) is e)
 
@@ -95,11 +93,11 @@ module _ (s t : Tables) (a : Alike s t) where
   unfolding fixed_at
   same_prev x = ap (λ f. f.prev) (a.fixed x)
 
-  pub same_walk : (fuel : ℕ) (q : Phase) (m : MaybeNode) → walk_back fuel t.nodes q m ≡ walk_back fuel s.nodes q m
+  pub same_walk : (fuel : ℕ) (q : Phase) (m : Option NodeNo) → walk_back fuel t.nodes q m ≡ walk_back fuel s.nodes q m
   unfolding walk_back
   same_walk zero q m = refl
-  same_walk (suc k) q Absent = refl
-  same_walk (suc k) q (At x) = rw (same_phase x, same_prev x, same_walk k q (prev_at s.nodes x))
+  same_walk (suc k) q None = refl
+  same_walk (suc k) q (Some x) = rw (same_phase x, same_prev x, same_walk k q (prev_at s.nodes x))
 
   -- READCHILD looks at the child word, and then goes along what never changes
   pub same_read : (x : NodeNo) (left : Bool) (q : Phase) → SameAt s t (child x left) → read_child t.totals.nodes t.nodes x left q ≡ read_child s.totals.nodes s.nodes x left q
@@ -107,23 +105,23 @@ module _ (s t : Tables) (a : Alike s t) where
   same_read x left q e = rw (same_child s t x left e, a.nodes, same_walk _ q _)
 
   -- what follows a parent: it is there in both or in neither
-  pub by_node : {A : Type 0} (x : NodeNo) (f g : MaybeNode → A) → f Absent ≡ g Absent → f (At x) ≡ g (At x) → f (as_parent t.nodes (At x)) ≡ g (as_parent s.nodes (At x))
+  pub by_node : {A : Type 0} (x : NodeNo) (f g : Option NodeNo → A) → f None ≡ g None → f (Some x) ≡ g (Some x) → f (as_parent t.nodes (Some x)) ≡ g (as_parent s.nodes (Some x))
   unfolding as_parent
   by_node x f g n h = rw (same_internal x) (there (is_internal s.nodes x))
     where
-      there : (b : Bool) → f (pick b (At x) Absent) ≡ g (pick b (At x) Absent)
+      there : (b : Bool) → f (pick b (Some x) None) ≡ g (pick b (Some x) None)
       there true = unfold pick in h
       there false = unfold pick in n
 
-  pub by_parent : {A : Type 0} (m : MaybeNode) (f g : MaybeNode → A) → f Absent ≡ g Absent → ((x : NodeNo) → m ≡ At x → f (At x) ≡ g (At x)) → f (as_parent t.nodes m) ≡ g (as_parent s.nodes m)
-  by_parent Absent f g n h = unfold as_parent in n
-  by_parent (At x) f g n h = by_node x f g n (h x refl)
+  pub by_parent : {A : Type 0} (m : Option NodeNo) (f g : Option NodeNo → A) → f None ≡ g None → ((x : NodeNo) → m ≡ Some x → f (Some x) ≡ g (Some x)) → f (as_parent t.nodes m) ≡ g (as_parent s.nodes m)
+  by_parent None f g n h = unfold as_parent in n
+  by_parent (Some x) f g n h = by_node x f g n (h x refl)
 
-  pub with-node : (x : NodeNo) (f g : NodeNo → Decision) → f x ≡ g x → through (as_parent t.nodes (At x)) f ≡ through (as_parent s.nodes (At x)) g
+  pub with-node : (x : NodeNo) (f g : NodeNo → Decision) → f x ≡ g x → through (as_parent t.nodes (Some x)) f ≡ through (as_parent s.nodes (Some x)) g
   unfolding through
   with-node x f g h = by_node x (λ n. through n f) (λ n. through n g) refl h
 
-  pub with_parent : (m : MaybeNode) (f g : NodeNo → Decision) → ((x : NodeNo) → m ≡ At x → f x ≡ g x) → through (as_parent t.nodes m) f ≡ through (as_parent s.nodes m) g
+  pub with_parent : (m : Option NodeNo) (f g : NodeNo → Decision) → ((x : NodeNo) → m ≡ Some x → f x ≡ g x) → through (as_parent t.nodes m) f ≡ through (as_parent s.nodes m) g
   unfolding through
   with_parent m f g h = by_parent m (λ n. through n f) (λ n. through n g) refl h
 

@@ -9,7 +9,7 @@ use Rattle.shapes.specs.declared.Place.TheVariants as place
 use Rattle.shapes.specs.declared.Operation.TheVariants.{Delete, Find}
 use Rattle.shapes.specs.declared.Effect.TheVariants as effect
 use Rattle.shapes.specs.declared.Filling.{Filling}
-use Rattle.shapes.specs.declared.Decision.{Decision}
+use Rattle.shapes.specs.Outcomes.{Decision}
 use Rattle.tables.specs.Names.{node, record_no, phase, update, root}
 use Rattle.tables.specs.Records.{no_entry}
 use Rattle.tables.specs.World.{Tables, tables_of}

@@ -1,13 +1,11 @@
 -- The one changeable word that the next turn looks at (01: one turn does one read, CAS, write or increment of a changeable word).
 -- No changeable word tells which: only the hand, the keys and what a record lists (SameLook.same-look).
-use Rattle.std.specs.Prelude.{ℕ, List, Bool, true, false, ltb}
+use Rattle.std.specs.Prelude.{ℕ, List, Bool, true, false, ltb, Option, None, Some}
 use Rattle.laws.specs.Choice.{pick}
 use Rattle.shapes.specs.declared.NodeNo.{NodeNo}
 use Rattle.shapes.specs.declared.RecordNo.{RecordNo}
 use Rattle.shapes.specs.declared.Key.{Key}
 use Rattle.shapes.specs.declared.Locals.{Locals}
-use Rattle.shapes.specs.declared.MaybeNode.{MaybeNode}
-use Rattle.shapes.specs.declared.MaybeNode.TheVariants.{Absent, At}
 use Rattle.shapes.specs.declared.Kind.{Kind}
 use Rattle.shapes.specs.declared.Kind.TheVariants as kind
 use Rattle.shapes.specs.declared.Link.{Link}
@@ -30,13 +28,13 @@ use Rattle.steps.specs.Scan.{Lists}
 use Rattle.kept.specs.Touched.{Changeable, counter, child, word, state, none}
 
 -- of a node that may be absent: then the turn is crooked, and looks at nothing
-unfoldable pub word_of : MaybeNode → Changeable
-word_of Absent = none
-word_of (At x) = word x
+unfoldable pub word_of : Option NodeNo → Changeable
+word_of None = none
+word_of (Some x) = word x
 
-unfoldable pub child_of : MaybeNode → Bool → Changeable
-child_of Absent left = none
-child_of (At x) left = child x left
+unfoldable pub child_of : Option NodeNo → Bool → Changeable
+child_of None left = none
+child_of (Some x) left = child x left
 
 -- VALIDATELINK; line 57 compares the child word
 unfoldable pub link_looks : Tables → Key → Locals → Link → LinkStep → Changeable

@@ -1,5 +1,5 @@
 -- What a turn may set: the word that it looks at, or the worker's own, which is the copy that it makes or the record that it took.
-use Rattle.std.specs.Prelude.{ℕ, ◌≡◌, ◌⊎◌, List, Bool}
+use Rattle.std.specs.Prelude.{ℕ, ◌≡◌, ◌⊎◌, List, Bool, Option, None, Some}
 use Rattle.std.proofs.Math.Path.{refl}
 use Rattle.std.proofs.Math.Logic.{inl}
 use Rattle.laws.specs.Choice.{pick, fork}
@@ -7,8 +7,6 @@ use Rattle.shapes.specs.declared.NodeNo.{NodeNo}
 use Rattle.shapes.specs.declared.Key.{Key}
 use Rattle.shapes.specs.declared.Totals.{Totals}
 use Rattle.shapes.specs.declared.Locals.{Locals}
-use Rattle.shapes.specs.declared.MaybeNode.{MaybeNode}
-use Rattle.shapes.specs.declared.MaybeNode.TheVariants.{Absent, At}
 use Rattle.shapes.specs.declared.Kind.{Kind}
 use Rattle.shapes.specs.declared.Kind.TheVariants as kind
 use Rattle.shapes.specs.declared.Link.{Link}
@@ -20,8 +18,7 @@ use Rattle.shapes.specs.declared.HelpMove.TheVariants as help
 use Rattle.shapes.specs.declared.Effect.{Effect}
 use Rattle.shapes.specs.declared.Effect.TheVariants as effect
 use Rattle.shapes.specs.declared.PendingChange.{PendingChange}
-use Rattle.shapes.specs.declared.Decision.{Decision}
-use Rattle.shapes.specs.declared.Decision.TheVariants as decision
+use Rattle.shapes.specs.Outcomes.{Decision}
 use Rattle.tables.specs.Nodes.{is_internal}
 use Rattle.tables.specs.Versions.{as_parent}
 use Rattle.steps.specs.Hand.{through}
@@ -46,13 +43,13 @@ abbrev pub SetsOnly : Changeable → Locals → Effect → Type 0
 SetsOnly c v e = (touched e ≡ none) ⊎ ((touched e ≡ c) ⊎ Own v e)
 
 abbrev pub Sets : Changeable → Locals → Decision → Type 0
-Sets c v decision.Crooked = Unit {0}
-Sets c v (decision.Go d) = SetsOnly c v d.effect
+Sets c v None = Unit {0}
+Sets c v (Some d) = SetsOnly c v d.effect
 
-abbrev pub SetsMove : Changeable → Locals → HelpMove → Type 0
-SetsMove c v help.Crooked = Unit {0}
-SetsMove c v (help.Goes e i q) = SetsOnly c v e
-SetsMove c v (help.Done done) = Unit {0}
+abbrev pub SetsMove : Changeable → Locals → Option HelpMove → Type 0
+SetsMove c v None = Unit {0}
+SetsMove c v (Some (help.Goes e i q)) = SetsOnly c v e
+SetsMove c v (Some (help.Done done)) = Unit {0}
 
 -- ---- decisions
 
@@ -60,11 +57,11 @@ module _ (c : Changeable) (v : Locals) where
   pub either : (b : Bool) (x y : Decision) → Sets c v x → Sets c v y → Sets c v (pick b x y)
   either b x y p q = fork (Sets c v) b (λ _. p) (λ _. q)
 
-  pub with-node : (m : MaybeNode) (g : NodeNo → Decision) → ((x : NodeNo) → Sets c v (g x)) → Sets c v (through m g)
+  pub with-node : (m : Option NodeNo) (g : NodeNo → Decision) → ((x : NodeNo) → Sets c v (g x)) → Sets c v (through m g)
   with-node = through_each (Sets c v) tt
 
   -- a parent, which is the very node
-  pub as_parent_lem : (ns : List ℕ) (x : NodeNo) (g : NodeNo → Decision) → Sets c v (g x) → Sets c v (through (as_parent ns (At x)) g)
+  pub as_parent_lem : (ns : List ℕ) (x : NodeNo) (g : NodeNo → Decision) → Sets c v (g x) → Sets c v (through (as_parent ns (Some x)) g)
   unfolding as_parent through
   as_parent_lem ns x g h = fork (λ m. Sets c v (through m g)) (is_internal ns x) (λ _. h) (λ _. tt)
 
@@ -79,18 +76,18 @@ module _ (c : Changeable) (v : Locals) where
     validated-sets kind.Insert k = either _ _ _ (inl refl) (either _ _ _ (inl refl) (inl refl))
     validated-sets kind.Delete k = either _ _ _ (reaches v.gp) (inl refl)
       where
-        reaches : (m : MaybeNode) → Sets c v (reaches182 v m)
-        reaches Absent = unfold reaches182 in tt
-        reaches (At gp) = unfold reaches182 touched in either _ _ _ tt (inl refl)
+        reaches : (m : Option NodeNo) → Sets c v (reaches182 v m)
+        reaches None = unfold reaches182 in tt
+        reaches (Some gp) = unfold reaches182 touched in either _ _ _ tt (inl refl)
 
-    pub link-sets : (a : Link) (m : LinkMove) → Sets c v (link_next t ns v a m)
+    pub link-sets : (a : Link) (m : Option LinkMove) → Sets c v (link_next t ns v a m)
     unfolding link_next held take_copy touched
-    link-sets a link.Crooked = tt
-    link-sets a (link.Goes b u) = inl refl
-    link-sets a (link.Helps r) = inl refl
-    link-sets a link.Fails = inl refl
-    link-sets Leaf64 link.Holds = inl refl
-    link-sets Parent65 link.Holds = inl refl
-    link-sets Sibling183 link.Holds = either _ _ _ (inl refl) (inl refl)
-    link-sets Left187 link.Holds = inl refl
-    link-sets Right188 link.Holds = inl refl
+    link-sets a None = tt
+    link-sets a (Some (link.Goes b u)) = inl refl
+    link-sets a (Some (link.Helps r)) = inl refl
+    link-sets a (Some link.Fails) = inl refl
+    link-sets Leaf64 (Some link.Holds) = inl refl
+    link-sets Parent65 (Some link.Holds) = inl refl
+    link-sets Sibling183 (Some link.Holds) = either _ _ _ (inl refl) (inl refl)
+    link-sets Left187 (Some link.Holds) = inl refl
+    link-sets Right188 (Some link.Holds) = inl refl

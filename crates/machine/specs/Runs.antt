@@ -1,10 +1,9 @@
 -- A run looks at the tables once: an accepted turn keeps sound tables sound, so every later look would find them so.
-use Rattle.std.specs.Prelude.{ℕ, zero, suc, ◌<◌, ◌≡◌, refl, true, false}
+use Rattle.std.specs.Prelude.{ℕ, zero, suc, ◌<◌, ◌≡◌, refl, true, false, None, Some, Ok, Err}
 use Rattle.std.proofs.Common.{arith, sym, ap, subst, ◌∙◌}
 use Rattle.laws.specs.Choice.{pick_true, pick_false}
-use Rattle.shapes.specs.declared.Outcome.{Outcome}
-use Rattle.shapes.specs.declared.Outcome.TheVariants.{Going, Said, Refused}
 use Rattle.shapes.specs.declared.Refusal.TheVariants as refusal
+use Rattle.shapes.specs.Outcomes.{Outcome}
 use Rattle.tables.specs.World.{World}
 use Rattle.tables.specs.Fresh.{Left, refused}
 use Rattle.sound.specs.Sound.{sound_of}
@@ -30,7 +29,7 @@ checked_once (suc k) n w s h =
     ap (λ (rest : Ran). goes_on (step_within s w).outcome (step_within s w).world n rest) (checked_once k (suc n) w (step_within s w).world (step_keeps_sound s w h))
 
 -- refusal 1: spoiled tables refuse the first turn, and no turn is counted
-pub spoiled_run : (k w : ℕ) (s : World) → 0 < k → sound_of s ≡ false → run_from k 0 w s ≡ record { world = s; outcome = Refused refusal.Table; turns = 0 }
+pub spoiled_run : (k w : ℕ) (s : World) → 0 < k → sound_of s ≡ false → run_from k 0 w s ≡ record { world = s; outcome = Err refusal.Table; turns = 0 }
 unfolding run_by turn_of goes_on
 spoiled_run zero w s l h = absurd (omega arith)
 spoiled_run (suc k) w s l h = rw (pick_false (sound_of s) (step_of s w) (refused s refusal.Table) h) refl
@@ -39,11 +38,11 @@ spoiled_run (suc k) w s l h = rw (pick_false (sound_of s) (step_of s w) (refused
 abbrev pub left_by : Ran → Left
 left_by r = record { world = r.world; outcome = r.outcome }
 
-going : (d : Left) (o : Outcome) → left_by (goes_on o d.world 0 (record { world = d.world; outcome = Going; turns = 1 })) ≡ record { world = d.world; outcome = o }
+going : (d : Left) (o : Outcome) → left_by (goes_on o d.world 0 (record { world = d.world; outcome = Ok None; turns = 1 })) ≡ record { world = d.world; outcome = o }
 unfolding goes_on
-going d Going = refl
-going d (Said a) = refl
-going d (Refused r) = refl
+going d (Ok None) = refl
+going d (Ok (Some a)) = refl
+going d (Err r) = refl
 
 pub run_of-one : (s : World) (w : ℕ) → left_by (run_of 1 s w) ≡ turn_of s w
 unfolding run_of run_by

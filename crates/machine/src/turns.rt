@@ -7,7 +7,7 @@ ghost use Rattle.running.specs.Loop.{ran};
 
 use checking::is_sound;
 use running::steps;
-use shapes::{Board, Outcome, Refusal, Reply, Run};
+use shapes::{Board, Refusal, Reply, Run};
 
 // The tables are looked at once: an accepted turn keeps sound tables sound.
 pub fn run(
@@ -24,14 +24,14 @@ pub fn run(
     if n == 0 {
         return Run {
             board,
-            outcome: Outcome::Going,
+            outcome: Ok(None),
             turns: 0,
         };
     }
     if !is_sound(board, nodes, records, pending, found) {
         return Run {
             board,
-            outcome: Outcome::Refused(Refusal::Table),
+            outcome: Err(Refusal::Table),
             turns: 0,
         };
     }

@@ -5,7 +5,7 @@ ghost use Rattle.std.specs.Prelude.{◌≡◌};
 ghost use Rattle.tables.specs.Names.{value, same_node, same_record, same_update};
 ghost use Rattle.tables.specs.Nodes.{kind_at, is_internal, rank_at, key_at, phase_at, prev_at, child_at, update_at, set_child, set_update};
 
-use shapes::{MaybeNode, NodeNo, Phase, Rank, RecordNo, Update};
+use shapes::{NodeNo, Phase, Rank, RecordNo, Update};
 use tables::{INTERNAL, NODE_WIDTH};
 use words::{put_word, word};
 
@@ -70,14 +70,14 @@ pub fn phase_at(ns: &[u32], x: NodeNo) -> Phase
 }
 
 #[tactic(auto, unfolding(tables::specs::Nodes::prev_at, laws::specs::Choice::pick))]
-pub fn prev_at(ns: &[u32], x: NodeNo) -> MaybeNode
+pub fn prev_at(ns: &[u32], x: NodeNo) -> Option<NodeNo>
     ensures { result ≡ prev_at ns.now x }
 {
     let has = word(ns, NODE_WIDTH, x.0, HAS_PREV);
     if has == 0 {
-        return MaybeNode::Absent;
+        return None;
     }
-    MaybeNode::At(NodeNo(word(ns, NODE_WIDTH, x.0, PREV)))
+    Some(NodeNo(word(ns, NODE_WIDTH, x.0, PREV)))
 }
 
 pub fn child_at(ns: &[u32], x: NodeNo, left: bool) -> NodeNo

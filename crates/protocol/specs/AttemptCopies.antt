@@ -1,12 +1,11 @@
 -- A delete takes its copy (line 185), reads the sibling's children into it, and reads the last words (lines 189 and 190); an insert reads its leaf's word (line 164).
-use Rattle.std.specs.Prelude.{ℕ, ◌<◌, ◌≡◌, ◌≢◌, Bool, true, false}
+use Rattle.std.specs.Prelude.{ℕ, ◌<◌, ◌≡◌, ◌≢◌, Bool, true, false, Some}
 use Rattle.std.proofs.Math.Path.{refl, subst}
 use Rattle.std.proofs.Common.{sym, ◌∙◌, true≢false, arith, eq-eqb}
 use Rattle.laws.specs.Choice.{fork}
 use Rattle.shapes.specs.declared.NodeNo.{NodeNo}
 use Rattle.shapes.specs.declared.Key.{Key}
 use Rattle.shapes.specs.declared.Locals.{Locals}
-use Rattle.shapes.specs.declared.MaybeNode.TheVariants.{At}
 use Rattle.shapes.specs.declared.Kind.TheVariants as kind
 use Rattle.shapes.specs.declared.Link.TheVariants.{Left187}
 use Rattle.shapes.specs.declared.LinkStep.TheVariants.{Word52}
@@ -131,7 +130,7 @@ module _ (w : ℕ) (s : Tables) (h : TablesSound s) (G : Ghost) (H : Holds (view
     pub copies_decide : (left : Bool) → Decides w s G kind.Delete k (copy_word s.nodes v left)
     unfolding copy_word link_parent
     copies_decide left = with-node w s G H kind.Delete k _ _ (λ x _. with-node w s G H kind.Delete k _ _ (λ c e.
-        let same : v.made ≡ c = same_node_lem (parent_is s (At v.made) c e).0 in
+        let same : v.made ≡ c = same_node_lem (parent_is s (Some v.made) c e).0 in
         rw (← same) (fork (λ q. Decides w s G kind.Delete k (does (effect.CopyChild v.made left (child_at s.nodes x left)) v q)) left
         (λ _. does_knows w s G H kind.Delete k (effect.CopyChild v.made left (child_at s.nodes x left)) v place.CopyRight (copied left (child_at s.nodes x left)))
         (λ _. does_knows w s G H kind.Delete k (effect.CopyChild v.made left (child_at s.nodes x left)) v (place.Link Left187 Word52) (gives_more (λ G' _ _ d. (d, tt)) (copied left (child_at s.nodes x left)))))))

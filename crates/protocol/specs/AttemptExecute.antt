@@ -1,5 +1,5 @@
 -- EXECUTE: the frozen tests (lines 96 to 99), filling the record (line 102), and the CAS of its first node (line 103).
-use Rattle.std.specs.Prelude.{ℕ, ◌+◌, ◌≤◌, ◌<◌, ◌≡◌}
+use Rattle.std.specs.Prelude.{ℕ, ◌+◌, ◌≤◌, ◌<◌, ◌≡◌, Some}
 use Rattle.std.proofs.Common.{sym, ◌∙◌}
 use Rattle.std.proofs.Math.Path.{subst}
 use Rattle.std.proofs.Math.Bool.{true}
@@ -13,7 +13,6 @@ use Rattle.shapes.specs.declared.Locals.{Locals}
 use Rattle.shapes.specs.declared.Update.{Update}
 use Rattle.shapes.specs.declared.Entry.{Entry}
 use Rattle.shapes.specs.declared.Filling.{Filling}
-use Rattle.shapes.specs.declared.MaybeNode.TheVariants.{At}
 use Rattle.shapes.specs.declared.Kind.{Kind}
 use Rattle.shapes.specs.declared.Kind.TheVariants as kind
 use Rattle.shapes.specs.declared.HelpStep.TheVariants.{Counter111}
@@ -104,7 +103,7 @@ module _ (w : ℕ) (s : Tables) (h : TablesSound s) (G : Ghost) (H : Holds (view
   unfolding fill_delete
   delete-filled v u f e = with-node w s G H kind.Delete k _ _ (λ g is. with-node w s G H kind.Delete k _ _ (λ _ _. by_test w s G H kind.Delete k _ _ _ (λ _. by g is) (λ _. tt)))
     where
-      by : (g : NodeNo) → as_parent s.nodes v.gp ≡ At g → Decides w s G kind.Delete k (does (effect.Fill v.info (delete_filling v g)) (holding v.info) place.Freeze103)
+      by : (g : NodeNo) → as_parent s.nodes v.gp ≡ Some g → Decides w s G kind.Delete k (does (effect.Fill v.info (delete_filling v g)) (holding v.info) place.Freeze103)
       by g is =
           let same : u.grand ≡ g = same_node_lem (sym u.is ∙ (parent_is s v.gp g is).0) in
           let a : DeleteTests w (view s) G v g = subst (DeleteTests w (view s) G v) same u.knows in

@@ -1,5 +1,5 @@
 -- What follows a link that holds (lines 65 and 66, 184, 187 and 188), in each of VALIDATELINK's five calls.
-use Rattle.std.specs.Prelude.{ℕ, refl, Bool}
+use Rattle.std.specs.Prelude.{ℕ, refl, Bool, Option, None, Some}
 use Rattle.std.proofs.Math.Path.{◌≡◌, sym, subst}
 use Rattle.std.proofs.Common.{ap, ◌∙◌, arith, eqb-true}
 use Rattle.std.proofs.Math.Bool.{true, false}
@@ -7,8 +7,6 @@ use Rattle.laws.specs.Choice.{fork}
 use Rattle.shapes.specs.declared.NodeNo.{NodeNo}
 use Rattle.shapes.specs.declared.Key.{Key}
 use Rattle.shapes.specs.declared.Locals.{Locals}
-use Rattle.shapes.specs.declared.MaybeNode.{MaybeNode}
-use Rattle.shapes.specs.declared.MaybeNode.TheVariants.{Absent, At}
 use Rattle.shapes.specs.declared.Kind.{Kind}
 use Rattle.shapes.specs.declared.Kind.TheVariants as kind
 use Rattle.shapes.specs.declared.Link.{Link}
@@ -39,7 +37,7 @@ use Rattle.protocol.specs.AttemptCopies.{copy_decides}
 module _ (w : ℕ) (s : Tables) (h : TablesSound s) (G : Ghost) (H : Holds (view s) G) (o : Kind) (k : Key) (v : Locals) where
   -- the child word of the parent, just read, is the child
   abbrev pub Holding : Link → Type 0
-  Holding a = (x c : NodeNo) → link_parent v a ≡ At x → link_child s.nodes v a ≡ At c → (child_at s.nodes x (link_left s.nodes k v a)).0 ≡ c.0 → Decides w s G o k (held s.totals s.nodes v a)
+  Holding a = (x c : NodeNo) → link_parent v a ≡ Some x → link_child s.nodes v a ≡ Some c → (child_at s.nodes x (link_left s.nodes k v a)).0 ≡ c.0 → Decides w s G o k (held s.totals s.nodes v a)
 
   held_leaf : OnLeaf (view s) G k v → Settled (view s) G v.p.0 v.up → Decides w s G o k (held s.totals s.nodes v Leaf64)
   unfolding held same_node link_parent
@@ -47,9 +45,9 @@ module _ (w : ℕ) (s : Tables) (h : TablesSound s) (G : Ghost) (H : Holds (view
       (λ e. goes_knows w s G H o k (with_pup v v.up) place.Word66 (record { leaf = record { landed = l; pup = up }; gpup = λ g _ other. absurd (other (eqb-true _ _ e)) }))
       (λ _. goes_knows w s G H o k (with_pup v v.up) (place.Link Parent65 Word52) (record { landed = l; pup = up }, only v.gp))
     where
-      only : (m : MaybeNode) → ValidatesMaybe (view s) G m v.up Word52
-      only Absent = tt
-      only (At x) = tt
+      only : (m : Option NodeNo) → ValidatesMaybe (view s) G m v.up Word52
+      only None = tt
+      only (Some x) = tt
 
   held_parent : LeafHeld (view s) G k v → ValidatesMaybe (view s) G v.gp v.up Child57 → Decides w s G o k (held s.totals s.nodes v Parent65)
   unfolding held
@@ -68,13 +66,13 @@ module _ (w : ℕ) (s : Tables) (h : TablesSound s) (G : Ghost) (H : Holds (view
       copy_decides w s h G H k v u there
 
   -- the copy's child, as it stands in the table
-  copy_child_lem : (left : Bool) (m : MaybeNode) (c : NodeNo) → ((x : NodeNo) → m ≡ At x → v.made ≡ x) → copy_child s.nodes m left ≡ At c → c.0 ≡ (view s).kid left v.made.0
+  copy_child_lem : (left : Bool) (m : Option NodeNo) (c : NodeNo) → ((x : NodeNo) → m ≡ Some x → v.made ≡ x) → copy_child s.nodes m left ≡ Some c → c.0 ≡ (view s).kid left v.made.0
   unfolding copy_child view
-  copy_child_lem left Absent c is e = let z : ◌≡◌ {A = ℕ} 0 1 = cc in absurd (omega arith)
-  copy_child_lem left (At x) c is e = let same : child_at s.nodes x left ≡ c = same_node_lem e in sym (ap (λ (y : NodeNo). y.0) (rw (← is x refl) at same))
+  copy_child_lem left None c is e = let z : ◌≡◌ {A = ℕ} 0 1 = cc in absurd (omega arith)
+  copy_child_lem left (Some x) c is e = let same : child_at s.nodes x left ≡ c = same_node_lem e in sym (ap (λ (y : NodeNo). y.0) (rw (← is x refl) at same))
 
-  made_child : (left : Bool) (c : NodeNo) → copy_child s.nodes (as_parent s.nodes (At v.made)) left ≡ At c → c.0 ≡ (view s).kid left v.made.0
-  made_child left c e = copy_child_lem left (as_parent s.nodes (At v.made)) c (λ x d. same_node_lem (parent_is s (At v.made) x d).0) e
+  made_child : (left : Bool) (c : NodeNo) → copy_child s.nodes (as_parent s.nodes (Some v.made)) left ≡ Some c → c.0 ≡ (view s).kid left v.made.0
+  made_child left c e = copy_child_lem left (as_parent s.nodes (Some v.made)) c (λ x d. same_node_lem (parent_is s (Some v.made) x d).0) e
 
   held-left : Under v.gp (λ g. Deleting w (view s) G v g.0) → Settled (view s) G v.sibling.0 v.up → Holding w s h G H kind.Delete k v Left187
   unfolding held link_parent link_child link_left view

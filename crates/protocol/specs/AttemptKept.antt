@@ -1,12 +1,10 @@
 -- What an attempt knows at its place is kept by the turns of every other worker.
-use Rattle.std.specs.Prelude.{ℕ, ◌≡◌, ◌≢◌, true, not, ltb, leb}
+use Rattle.std.specs.Prelude.{ℕ, ◌≡◌, ◌≢◌, true, not, ltb, leb, Option, None, Some}
 use Rattle.std.proofs.Common.{sym, ap, ap₂, subst}
 use Rattle.shapes.specs.declared.NodeNo.{NodeNo}
 use Rattle.shapes.specs.declared.Key.{Key}
 use Rattle.shapes.specs.declared.Locals.{Locals}
 use Rattle.shapes.specs.declared.Update.{Update}
-use Rattle.shapes.specs.declared.MaybeNode.{MaybeNode}
-use Rattle.shapes.specs.declared.MaybeNode.TheVariants.{Absent, At}
 use Rattle.shapes.specs.declared.Kind.{Kind}
 use Rattle.shapes.specs.declared.Kind.TheVariants as kind
 use Rattle.shapes.specs.declared.Link.{Link}
@@ -35,7 +33,7 @@ use Rattle.protocol.specs.Validating.{validates_kept}
 use Rattle.protocol.specs.Helper.{helps_kept}
 use Rattle.protocol.specs.AttemptPlaces.{searched, opposite, OnLeaf, LeafHeld, LinksHeld, ValidatesMaybe, Under, Siblingless, Paired, LeftCopied, LeafSibling, SiblingRead, InsertTests, DeleteTests, OfInsert, OfDelete, Tests, LinkBase, LinkKnows, HelpKnows, AttemptKnows}
 
-pub under_map : {m : MaybeNode} {P Q : NodeNo → Type 0} → ((g : NodeNo) → P g → Q g) → Under m P → Under m Q
+pub under_map : {m : Option NodeNo} {P Q : NodeNo → Type 0} → ((g : NodeNo) → P g → Q g) → Under m P → Under m Q
 under_map f u = record { grand = u.grand; is = u.is; knows = f u.grand u.knows }
 
 pub of_insert : (o : Kind) {A B : Type 0} → (A → B) → OfInsert o A → OfInsert o B
@@ -73,7 +71,7 @@ module _ (o : ℕ) (X X' : View) (G G' : Ghost) (H : Holds X G) (L : Rely o X X'
     siblingless_kept g h =
         let same : opposite X v.p.0 v.l.0 ≡ opposite X' v.p.0 v.l.0 = ap₂ leb (key_same v.p.0 (p_linked X G _ _ _ _ _ h.landed)) (key_same v.l.0 (l_linked X G _ _ _ _ _ h.landed)) in
         record {
-          landed = subst (λ b. Landed X' G' v.seq.0 (At g) v.p.0 v.l.0 b) same (landed_kept o X X' G G' H L t v.seq.0 (At g) v.p.0 v.l.0 _ h.landed);
+          landed = subst (λ b. Landed X' G' v.seq.0 (Some g) v.p.0 v.l.0 b) same (landed_kept o X X' G G' H L t v.seq.0 (Some g) v.p.0 v.l.0 _ h.landed);
           pup = settled_kept o X X' G G' L _ _ h.pup;
           gpup = settled_kept o X X' G G' L _ _ h.gpup;
         }
@@ -81,11 +79,11 @@ module _ (o : ℕ) (X X' : View) (G G' : Ghost) (H : Holds X G) (L : Rely o X X'
     pub paired_kept : (g : NodeNo) → Paired X G v g → Paired X' G' v g
     paired_kept g h = record { before = siblingless_kept g h.before; four = h.four; linked = L.linked _ h.linked; low = rw (fixed_same _ h.linked) h.low }
 
-  pub maybe_kept : (m : MaybeNode) (up : Update) (b : LinkStep) → ValidatesMaybe X G m up b → ValidatesMaybe X' G' m up b
-  maybe_kept Absent up Word52 h = h
-  maybe_kept Absent up State53 h = h
-  maybe_kept Absent up Child57 h = h
-  maybe_kept (At x) up b h = validates_kept o X X' G G' L x.0 up b h
+  pub maybe_kept : (m : Option NodeNo) (up : Update) (b : LinkStep) → ValidatesMaybe X G m up b → ValidatesMaybe X' G' m up b
+  maybe_kept None up Word52 h = h
+  maybe_kept None up State53 h = h
+  maybe_kept None up Child57 h = h
+  maybe_kept (Some x) up b h = validates_kept o X X' G G' L x.0 up b h
 
 -- ---- by the others' turns
 

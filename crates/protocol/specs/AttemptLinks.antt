@@ -1,5 +1,5 @@
 -- VALIDATELINK's steps (lines 52 to 58), once for its five calls.
-use Rattle.std.specs.Prelude.{ℕ, ◌<◌, ◌≡◌, true, not}
+use Rattle.std.specs.Prelude.{ℕ, ◌<◌, ◌≡◌, true, not, Option, None, Some}
 use Rattle.std.proofs.Math.Path.{refl}
 use Rattle.std.proofs.Common.{sym, subst, eqb-true}
 use Rattle.laws.specs.Choice.{fork}
@@ -7,8 +7,6 @@ use Rattle.shapes.specs.declared.NodeNo.{NodeNo}
 use Rattle.shapes.specs.declared.Key.{Key}
 use Rattle.shapes.specs.declared.Locals.{Locals}
 use Rattle.shapes.specs.declared.Update.{Update}
-use Rattle.shapes.specs.declared.MaybeNode.{MaybeNode}
-use Rattle.shapes.specs.declared.MaybeNode.TheVariants.{Absent, At}
 use Rattle.shapes.specs.declared.Kind.{Kind}
 use Rattle.shapes.specs.declared.Kind.TheVariants as kind
 use Rattle.shapes.specs.declared.Link.{Link}
@@ -51,12 +49,12 @@ module _ (w : ℕ) (X : View) (G : Ghost) (o : Kind) (k : Key) (v : Locals) wher
   joined u Right188 b h g = (of_delete o (under_map (λ x p. (deleting_words w X G v v.lup u v.i v.sup x.0 p.0, left_words w X G v v.lup u v.i p.1))) h, g)
 
   -- the parent is linked
-  deleted_used : Holds X G → (c : Kind) {P : NodeNo → Type 0} (y x : NodeNo) → ((g : NodeNo) → P g → G.linked y.0 ≡ true) → OfDelete c (Under v.gp P) → At y ≡ At x → x.0 < X.nodes
+  deleted_used : Holds X G → (c : Kind) {P : NodeNo → Type 0} (y x : NodeNo) → ((g : NodeNo) → P g → G.linked y.0 ≡ true) → OfDelete c (Under v.gp P) → Some y ≡ Some x → x.0 < X.nodes
   deleted_used H kind.Insert y x f h e = absurd h
   deleted_used H kind.Delete y x f h e = let same : y ≡ x = same_node_lem e in rw (← same) (H.used _ (f h.grand h.knows))
   deleted_used H kind.Find y x f h e = absurd h
 
-  parent_used : Holds X G → (a : Link) → LinkBase w X G o k v a → (x : NodeNo) → link_parent v a ≡ At x → x.0 < X.nodes
+  parent_used : Holds X G → (a : Link) → LinkBase w X G o k v a → (x : NodeNo) → link_parent v a ≡ Some x → x.0 < X.nodes
   unfolding link_parent
   parent_used H Leaf64 h x e = let same : v.p ≡ x = same_node_lem e in rw (← same) (H.used _ (p_linked X G _ _ _ _ _ h))
   parent_used H Parent65 h x e = H.used _ (g_is_linked X G _ x _ _ _ (subst (λ m. Landed X G v.seq.0 m v.p.0 v.l.0 (not (searched X k v.p.0))) e h.landed))
@@ -65,37 +63,37 @@ module _ (w : ℕ) (X : View) (G : Ghost) (o : Kind) (k : Key) (v : Locals) wher
   parent_used H Right188 h x e = deleted_used H o v.sibling x (λ g d. d.0.linked.3) h e
 
   -- past line 52 there is a parent
-  word-seen : (m : MaybeNode) (u : Update) → ValidatesMaybe X G m u State53 → (x : ℕ) × Seen X G x u
-  word-seen Absent u h = absurd h
-  word-seen (At x) u h = (x.0, h)
+  word-seen : (m : Option NodeNo) (u : Update) → ValidatesMaybe X G m u State53 → (x : ℕ) × Seen X G x u
+  word-seen None u h = absurd h
+  word-seen (Some x) u h = (x.0, h)
 
-  word_final : (m : MaybeNode) (u : Update) → Final X u → ValidatesMaybe X G m u State53 → ValidatesMaybe X G m u Child57
-  word_final Absent u f h = h
-  word_final (At x) u f h = record { seen = h; final = f }
+  word_final : (m : Option NodeNo) (u : Update) → Final X u → ValidatesMaybe X G m u State53 → ValidatesMaybe X G m u Child57
+  word_final None u f h = h
+  word_final (Some x) u f h = record { seen = h; final = f }
 
 -- ---- the steps
 
 module _ (w : ℕ) (s : Tables) (h : TablesSound s) (G : Ghost) (H : Holds (view s) G) (o : Kind) (k : Key) (v : Locals) where
-  abbrev LinkGives : Link → LinkMove → Type 0
-  LinkGives a link.Crooked = Unit {0}
-  LinkGives a (link.Goes b u) = LinkKnows w (view s) G o k (with_up v u) a b
-  LinkGives a (link.Helps r) = Decides w s G o k (helps r)
-  LinkGives a link.Fails = Unit {0}
-  LinkGives a link.Holds = Decides w s G o k (held s.totals s.nodes v a)
+  abbrev LinkGives : Link → Option LinkMove → Type 0
+  LinkGives a None = Unit {0}
+  LinkGives a (Some (link.Goes b u)) = LinkKnows w (view s) G o k (with_up v u) a b
+  LinkGives a (Some (link.Helps r)) = Decides w s G o k (helps r)
+  LinkGives a (Some link.Fails) = Unit {0}
+  LinkGives a (Some link.Holds) = Decides w s G o k (held s.totals s.nodes v a)
 
-  next_decides : (a : Link) (m : LinkMove) → LinkGives a m → Decides w s G o k (link_next s.totals s.nodes v a m)
+  next_decides : (a : Link) (m : Option LinkMove) → LinkGives a m → Decides w s G o k (link_next s.totals s.nodes v a m)
   unfolding link_next
-  next_decides a link.Crooked g = tt
-  next_decides a (link.Goes b u) g = goes_knows w s G H o k (with_up v u) (place.Link a b) g
-  next_decides a (link.Helps r) g = g
-  next_decides a link.Fails g = retries_knows w s G H o k
-  next_decides a link.Holds g = g
+  next_decides a None g = tt
+  next_decides a (Some (link.Goes b u)) g = goes_knows w s G H o k (with_up v u) (place.Link a b) g
+  next_decides a (Some (link.Helps r)) g = g
+  next_decides a (Some link.Fails) g = retries_knows w s G H o k
+  next_decides a (Some link.Holds) g = g
 
   -- line 52
-  reads52 : (a : Link) → LinkBase w (view s) G o k v a → (m : MaybeNode) → ((x : NodeNo) → m ≡ At x → link_parent v a ≡ At x) → LinkGives a (word52 s.nodes m)
+  reads52 : (a : Link) → LinkBase w (view s) G o k v a → (m : Option NodeNo) → ((x : NodeNo) → m ≡ Some x → link_parent v a ≡ Some x) → LinkGives a (word52 s.nodes m)
   unfolding word52 view
-  reads52 a base Absent is = tt
-  reads52 a base (At x) is = joined w (view s) G o k v (update_at s.nodes x) a State53 base
+  reads52 a base None is = tt
+  reads52 a base (Some x) is = joined w (view s) G o k v (update_at s.nodes x) a State53 base
       (subst (λ m. ValidatesMaybe (view s) G m (update_at s.nodes x) State53) (sym (is x refl)) (seen_now (view s) G H x.0 (parent_used w (view s) G o k v H a base x (is x refl))))
 
   -- lines 53 and 54
@@ -106,11 +104,11 @@ module _ (w : ℕ) (s : Tables) (h : TablesSound s) (G : Ghost) (H : Holds (view
       (λ t. joined w (view s) G o k v v.up a Child57 base (word_final w (view s) G o k v (link_parent v a) v.up (unfrozen_final s v.up t) g))
 
   -- lines 57 and 58
-  reads57 : (a : Link) → Holding w s h G H o k v a → (m c : MaybeNode) → ((x : NodeNo) → m ≡ At x → link_parent v a ≡ At x) → link_child s.nodes v a ≡ c → LinkGives a (child57 s.nodes m c (link_left s.nodes k v a))
+  reads57 : (a : Link) → Holding w s h G H o k v a → (m c : Option NodeNo) → ((x : NodeNo) → m ≡ Some x → link_parent v a ≡ Some x) → link_child s.nodes v a ≡ c → LinkGives a (child57 s.nodes m c (link_left s.nodes k v a))
   unfolding child57 same_node
-  reads57 a go Absent c is there = tt
-  reads57 a go (At x) Absent is there = tt
-  reads57 a go (At x) (At c) is there = fork (LinkGives a) _ (λ e. go x c (is x refl) there (eqb-true _ _ e)) (λ _. tt)
+  reads57 a go None c is there = tt
+  reads57 a go (Some x) None is there = tt
+  reads57 a go (Some x) (Some c) is there = fork (LinkGives a) _ (λ e. go x c (is x refl) there (eqb-true _ _ e)) (λ _. tt)
 
   link_gives : (a : Link) (b : LinkStep) → LinkKnows w (view s) G o k v a b → LinkGives a (link_of s.nodes s.records (as_parent s.nodes (link_parent v a)) (link_child s.nodes v a) (link_left s.nodes k v a) v.up b)
   unfolding link_of

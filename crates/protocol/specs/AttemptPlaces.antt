@@ -1,11 +1,9 @@
 -- What an insert, a delete or a find knows at each of its places: only what its later effects need. An attempt may be crooked; then nothing changes.
-use Rattle.std.specs.Prelude.{ℕ, ◌≤◌, ◌≡◌, ◌≢◌, Bool, true, not, ltb, leb}
+use Rattle.std.specs.Prelude.{ℕ, ◌≤◌, ◌≡◌, ◌≢◌, Bool, true, not, ltb, leb, Option, None, Some}
 use Rattle.shapes.specs.declared.NodeNo.{NodeNo}
 use Rattle.shapes.specs.declared.Key.{Key}
 use Rattle.shapes.specs.declared.Locals.{Locals}
 use Rattle.shapes.specs.declared.Update.{Update}
-use Rattle.shapes.specs.declared.MaybeNode.{MaybeNode}
-use Rattle.shapes.specs.declared.MaybeNode.TheVariants.{Absent, At}
 use Rattle.shapes.specs.declared.Kind.{Kind}
 use Rattle.shapes.specs.declared.Kind.TheVariants as kind
 use Rattle.shapes.specs.declared.Link.{Link}
@@ -56,26 +54,26 @@ pub record LeafHeld (X : View) (G : Ghost) (k : Key) (v : Locals) : Type 0 where
 -- line 66: so did the link to p, where it was looked at
 pub record LinksHeld (X : View) (G : Ghost) (k : Key) (v : Locals) : Type 0 where
   pub leaf : LeafHeld X G k v
-  pub gpup : (g : NodeNo) → v.gp ≡ At g → v.p.0 ≢ 0 → Settled X G g.0 v.gpup
+  pub gpup : (g : NodeNo) → v.gp ≡ Some g → v.p.0 ≢ 0 → Settled X G g.0 v.gpup
 
 -- VALIDATELINK of a parent that may be absent: then it does not come past line 52
-abbrev pub ValidatesMaybe : View → Ghost → MaybeNode → Update → LinkStep → Type 0
-ValidatesMaybe X G Absent up Word52 = Unit {0}
-ValidatesMaybe X G Absent up State53 = ⊥
-ValidatesMaybe X G Absent up Child57 = ⊥
-ValidatesMaybe X G (At x) up b = Validates X G x.0 up b
+abbrev pub ValidatesMaybe : View → Ghost → Option NodeNo → Update → LinkStep → Type 0
+ValidatesMaybe X G None up Word52 = Unit {0}
+ValidatesMaybe X G None up State53 = ⊥
+ValidatesMaybe X G None up Child57 = ⊥
+ValidatesMaybe X G (Some x) up b = Validates X G x.0 up b
 
 -- ---- DELETE
 
 -- gp is there
-pub record Under (gp : MaybeNode) (Q : NodeNo → Type 0) : Type 0 where
+pub record Under (gp : Option NodeNo) (Q : NodeNo → Type 0) : Type 0 where
   pub grand : NodeNo
-  pub is : gp ≡ At grand
+  pub is : gp ≡ Some grand
   pub knows : Q grand
 
 -- line 182: the leaf has the key, so the sibling stands opposite
 pub record Siblingless (X : View) (G : Ghost) (v : Locals) (g : NodeNo) : Type 0 where
-  pub landed : Landed X G v.seq.0 (At g) v.p.0 v.l.0 (opposite X v.p.0 v.l.0)
+  pub landed : Landed X G v.seq.0 (Some g) v.p.0 v.l.0 (opposite X v.p.0 v.l.0)
   pub pup : Settled X G v.p.0 v.pup
   pub gpup : Settled X G g.0 v.gpup
 

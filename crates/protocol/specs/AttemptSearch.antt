@@ -1,12 +1,11 @@
 -- An attempt's way down: Counter read (line 74), and READCHILD on k's side (line 39), on to an internal node or out with a leaf.
-use Rattle.std.specs.Prelude.{ℕ, ◌≤◌, ◌≡◌, refl, [], Bool, true, false, not}
+use Rattle.std.specs.Prelude.{ℕ, ◌≤◌, ◌≡◌, refl, [], Bool, true, false, not, Some}
 use Rattle.std.proofs.Math.Path.{sym, subst}
 use Rattle.std.proofs.Common.{ap, ◌∙◌}
 use native.Mathlib.Omega.{arith}
 use Rattle.shapes.specs.declared.NodeNo.{NodeNo}
 use Rattle.shapes.specs.declared.Key.{Key}
 use Rattle.shapes.specs.declared.Locals.{Locals}
-use Rattle.shapes.specs.declared.MaybeNode.TheVariants.{At}
 use Rattle.shapes.specs.declared.Kind.{Kind}
 use Rattle.shapes.specs.declared.Link.TheVariants.{Leaf64}
 use Rattle.shapes.specs.declared.LinkStep.TheVariants.{Word52}
@@ -48,7 +47,7 @@ pub twice_not : (b : Bool) → not (not b) ≡ b
 twice_not true = refl
 twice_not false = refl
 
-pub same_node_lem : {x y : NodeNo} → At x ≡ At y → x ≡ y
+pub same_node_lem : {x y : NodeNo} → Some x ≡ Some y → x ≡ y
 same_node_lem e = cc
 
 module _ (w : ℕ) (s : Tables) (h : TablesSound s) (G : Ghost) (H : Holds (view s) G) (o : Kind) (k : Key) where
@@ -74,6 +73,6 @@ module _ (w : ℕ) (s : Tables) (h : TablesSound s) (G : Ghost) (H : Holds (view
   pub search_decides : (v : Locals) → Searching (view s) G v.seq.0 v.gp v.p.0 → Decides w s G o k (search39 s.totals s.nodes k v)
   unfolding search39
   search_decides v S = with-node w s G H o k _ _ (λ p e. with-node w s G H o k _ _ (λ c d.
-      let at = parent_is s (At v.p) p e in
+      let at = parent_is s (Some v.p) p e in
       let same : p ≡ v.p = sym (same_node_lem at.0) in
       found39 v S (rw same at at.1) c (rw same at (found_child s h v.seq p c (goes_left s.nodes k p) d))))

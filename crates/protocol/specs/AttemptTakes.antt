@@ -1,5 +1,5 @@
 -- Line 66 and what follows when the leaf is validated: an insert takes its nodes (lines 161 to 163), a delete comes to line 182 and reads the sibling.
-use Rattle.std.specs.Prelude.{ℕ, ◌+◌, ◌≤◌, ◌≡◌, ◌≢◌, Bool, true, false, eqb, ltb, leb}
+use Rattle.std.specs.Prelude.{ℕ, ◌+◌, ◌≤◌, ◌≡◌, ◌≢◌, Bool, true, false, eqb, ltb, leb, Option, None, Some}
 use Rattle.std.proofs.Math.Path.{refl, sym, ap, subst}
 use Rattle.std.proofs.Common.{◌∙◌, true≢false}
 use Rattle.std.proofs.Math.Bool.{not}
@@ -8,8 +8,6 @@ use Rattle.laws.specs.Tests.{says_and, says_le}
 use Rattle.shapes.specs.declared.NodeNo.{NodeNo}
 use Rattle.shapes.specs.declared.Key.{Key}
 use Rattle.shapes.specs.declared.Locals.{Locals}
-use Rattle.shapes.specs.declared.MaybeNode.{MaybeNode}
-use Rattle.shapes.specs.declared.MaybeNode.TheVariants.{Absent, At}
 use Rattle.shapes.specs.declared.Kind.{Kind}
 use Rattle.shapes.specs.declared.Kind.TheVariants as kind
 use Rattle.shapes.specs.declared.Link.TheVariants.{Sibling183}
@@ -92,15 +90,15 @@ module _ (w : ℕ) (s : Tables) (h : TablesSound s) (G : Ghost) (H : Holds (view
       let same : key_at s.nodes v.l ≡ k.0 = eqb-true _ _ e in
       sym (not_less (key_at s.nodes v.p) (key_at s.nodes v.l) ∙ ap (λ n. not (ltb n (key_at s.nodes v.p))) same)
 
-  reaches_decides : LinksHeld (view s) G k v → eqb (key_at s.nodes v.l) k.0 ≡ true → (m : MaybeNode) → v.gp ≡ m → Decides w s G kind.Delete k (reaches182 v m)
+  reaches_decides : LinksHeld (view s) G k v → eqb (key_at s.nodes v.l) k.0 ≡ true → (m : Option NodeNo) → v.gp ≡ m → Decides w s G kind.Delete k (reaches182 v m)
   unfolding reaches182 same_node
-  reaches_decides a e Absent is = tt
-  reaches_decides a e (At g) is = by_test w s G H kind.Delete k _ _ _ (λ _. tt)
+  reaches_decides a e None is = tt
+  reaches_decides a e (Some g) is = by_test w s G H kind.Delete k _ _ _ (λ _. tt)
       (λ r. goes_knows w s G H kind.Delete k v place.Sibling182 (record {
         grand = g;
         is = is;
         knows = record {
-          landed = subst (λ b. Landed (view s) G v.seq.0 (At g) v.p.0 v.l.0 b) (opposite_is e) (subst (λ m. Landed (view s) G v.seq.0 m v.p.0 v.l.0 (not (searched (view s) k v.p.0))) is a.leaf.landed);
+          landed = subst (λ b. Landed (view s) G v.seq.0 (Some g) v.p.0 v.l.0 b) (opposite_is e) (subst (λ m. Landed (view s) G v.seq.0 m v.p.0 v.l.0 (not (searched (view s) k v.p.0))) is a.leaf.landed);
           pup = a.leaf.pup;
           gpup = a.gpup g is (eqb-false _ _ r);
         };
@@ -141,6 +139,6 @@ module _ (w : ℕ) (s : Tables) (h : TablesSound s) (G : Ghost) (H : Holds (view
   pub sibling_decides : Under v.gp (Siblingless (view s) G v) → Decides w s G kind.Delete k (sibling182 s.totals s.nodes v)
   unfolding sibling182 link_parent
   sibling_decides u = with-node w s G H kind.Delete k _ _ (λ p e. with-node w s G H kind.Delete k _ _ (λ c d.
-      let same : p ≡ v.p = sym (same_node_lem (parent_is s (At v.p) p e).0) in
+      let same : p ≡ v.p = sym (same_node_lem (parent_is s (Some v.p) p e).0) in
       let r = found_child s h v.seq p c (sibling_left s.nodes v) d in
       goes_knows w s G H kind.Delete k (with_sibling v c) (place.Link Sibling183 Word52) (record { grand = u.grand; is = u.is; knows = paired u.grand c u.knows (rw same at r) }, tt)))

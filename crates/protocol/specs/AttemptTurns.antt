@@ -1,5 +1,5 @@
 -- A turn of an attempt: what it decides gives what its next place knows. Turns that only read, HELP's turns, and how a choice or a node that may be absent is gone through.
-use Rattle.std.specs.Prelude.{ℕ, ◌<◌, Bool, true}
+use Rattle.std.specs.Prelude.{ℕ, ◌<◌, Bool, true, Option, None, Some}
 use Rattle.std.proofs.Math.Path.{◌≡◌, refl}
 use Rattle.std.proofs.Common.{ap, inl, arith}
 use Rattle.std.proofs.Math.Bool.{false}
@@ -8,8 +8,6 @@ use Rattle.shapes.specs.declared.NodeNo.{NodeNo}
 use Rattle.shapes.specs.declared.Key.{Key}
 use Rattle.shapes.specs.declared.Locals.{Locals}
 use Rattle.shapes.specs.declared.Update.{Update}
-use Rattle.shapes.specs.declared.MaybeNode.{MaybeNode}
-use Rattle.shapes.specs.declared.MaybeNode.TheVariants.{Absent, At}
 use Rattle.shapes.specs.declared.Kind.{Kind}
 use Rattle.shapes.specs.declared.HelpStep.{HelpStep}
 use Rattle.shapes.specs.declared.HelpStep.TheVariants.{Counter111}
@@ -22,8 +20,7 @@ use Rattle.shapes.specs.declared.Place.TheVariants as place
 use Rattle.shapes.specs.declared.Effect.{Effect}
 use Rattle.shapes.specs.declared.Answer.{Answer}
 use Rattle.shapes.specs.declared.Answer.TheVariants.{Yes}
-use Rattle.shapes.specs.declared.Decision.{Decision}
-use Rattle.shapes.specs.declared.Decision.TheVariants as decision
+use Rattle.shapes.specs.Outcomes.{Decision}
 use Rattle.tables.specs.Nodes.{is_internal}
 use Rattle.tables.specs.Records.{aborted}
 use Rattle.tables.specs.Versions.{as_parent}
@@ -57,8 +54,8 @@ gives_more f g = record { after = g.after; holds = g.holds; rely = g.rely; trees
 
 -- what a decision of an attempt at key k comes to; a crooked one leaves all as before
 abbrev pub Decides : (w : ℕ) → Tables → Ghost → Kind → Key → Decision → Type 0
-Decides w s G o k decision.Crooked = Unit {0}
-Decides w s G o k (decision.Go d) = Gives w (view s) (view (apply d.effect s)) G (λ G'. NextKnows w (view (apply d.effect s)) G' o k d.hand d.next)
+Decides w s G o k None = Unit {0}
+Decides w s G o k (Some d) = Gives w (view s) (view (apply d.effect s)) G (λ G'. NextKnows w (view (apply d.effect s)) G' o k d.hand d.next)
 
 module _ (w : ℕ) (s : Tables) (G : Ghost) (H : Holds (view s) G) (o : Kind) (k : Key) where
   pub does_knows : (e : Effect) (v : Locals) (q : Place) → Gives w (view s) (view (apply e s)) G (λ G'. AttemptKnows w (view (apply e s)) G' o k v q) → Decides w s G o k (does e v q)
@@ -79,10 +76,10 @@ module _ (w : ℕ) (s : Tables) (G : Ghost) (H : Holds (view s) G) (o : Kind) (k
   pub helps_knows : (v : ℕ) (u : Update) → Seen (view s) G v u → (view s).state u.info.0 < aborted → Decides w s G o k (helps u.info)
   helps_knows v u seen open' = goes_knows (holding u.info) (place.Help Counter111 back.Again) (helps-word (view s) G H v u seen open')
 
-  pub with-node : (m : MaybeNode) (f : NodeNo → Decision) → ((x : NodeNo) → m ≡ At x → Decides w s G o k (f x)) → Decides w s G o k (through m f)
+  pub with-node : (m : Option NodeNo) (f : NodeNo → Decision) → ((x : NodeNo) → m ≡ Some x → Decides w s G o k (f x)) → Decides w s G o k (through m f)
   unfolding through
-  with-node Absent f h = tt
-  with-node (At x) f h = h x refl
+  with-node None f h = tt
+  with-node (Some x) f h = h x refl
 
   pub by_test : (b : Bool) (x y : Decision) → (b ≡ true → Decides w s G o k x) → (b ≡ false → Decides w s G o k y) → Decides w s G o k (pick b x y)
   by_test b x y f g = fork (Decides w s G o k) b f g
@@ -109,18 +106,18 @@ module _ (w : ℕ) (s : Tables) (G : Ghost) (H : Holds (view s) G) (o : Kind) (k
   unfolding help_next
   help_decides sound b c v h = by (help_of s v.info v.i b) (help_moves w s sound G H v.info.0 (known b c v h).shown v.i b (known b c v h).at)
     where
-      by : (m : HelpMove) → Moved w s sound G H v.info.0 (known b c v h).shown m → Decides w s G o k (help_next c v m)
-      by help.Crooked g = absurd g
-      by (help.Goes e i d) g = does_knows e (with_i v i) (place.Help d c) (gives_more (λ G' _ _ q. next_help b c v (view (apply e s)) G' i d h q) g)
-      by (help.Done done) g = backs b c v done h
+      by : (m : Option HelpMove) → Moved w s sound G H v.info.0 (known b c v h).shown m → Decides w s G o k (help_next c v m)
+      by None g = absurd g
+      by (Some (help.Goes e i d)) g = does_knows e (with_i v i) (place.Help d c) (gives_more (λ G' _ _ q. next_help b c v (view (apply e s)) G' i d h q) g)
+      by (Some (help.Done done)) g = backs b c v done h
 
 -- ---- a node used as parent
 
-pub parent_is : (s : Tables) (m : MaybeNode) (x : NodeNo) → as_parent s.nodes m ≡ At x → (m ≡ At x) × (is_internal s.nodes x ≡ true)
+pub parent_is : (s : Tables) (m : Option NodeNo) (x : NodeNo) → as_parent s.nodes m ≡ Some x → (m ≡ Some x) × (is_internal s.nodes x ≡ true)
 unfolding as_parent
-parent_is s Absent x e = let z : ◌≡◌ {A = ℕ} 0 1 = cc in absurd (omega arith)
-parent_is s (At y) x e = found (is_internal s.nodes y) refl e
+parent_is s None x e = let z : ◌≡◌ {A = ℕ} 0 1 = cc in absurd (omega arith)
+parent_is s (Some y) x e = found (is_internal s.nodes y) refl e
   where
-    found : (b : Bool) → is_internal s.nodes y ≡ b → pick b (At y) Absent ≡ At x → (At y ≡ At x) × (is_internal s.nodes x ≡ true)
-    found true i g = let same : y ≡ x = unfold pick in cc in (ap At same, rw (← same) i)
+    found : (b : Bool) → is_internal s.nodes y ≡ b → pick b (Some y) None ≡ Some x → (Some y ≡ Some x) × (is_internal s.nodes x ≡ true)
+    found true i g = let same : y ≡ x = unfold pick in cc in (ap Some same, rw (← same) i)
     found false i g = let z : ◌≡◌ {A = ℕ} 0 1 = unfold pick in cc in absurd (omega arith)

@@ -1,6 +1,6 @@
 -- What a delete knows from the taking of its copy (line 185) to line 102, that the others keep it, and that it may fill its record.
 use Prim.Native.Nat.{ℕ, zero, suc, ◌≤◌, ◌<◌}
-use Rattle.std.specs.Prelude.{◌≡◌, refl, ◌≢◌, ◌⊎◌, Bool, true}
+use Rattle.std.specs.Prelude.{◌≡◌, refl, ◌≢◌, ◌⊎◌, Bool, true, Some}
 use Rattle.std.proofs.Math.Path.{sym}
 use Rattle.std.proofs.Common.{◌∙◌, subst, inl}
 use Rattle.std.proofs.Math.Logic.{inr}
@@ -9,7 +9,6 @@ use Rattle.std.proofs.Math.Decide.{dec_le}
 use Rattle.shapes.specs.declared.NodeNo.{NodeNo}
 use Rattle.shapes.specs.declared.Locals.{Locals}
 use Rattle.shapes.specs.declared.Update.{Update}
-use Rattle.shapes.specs.declared.MaybeNode.TheVariants.{At}
 use Rattle.tables.specs.Names.{node}
 use Rattle.tables.specs.NodeWrites.{Fixed}
 use Rattle.tables.specs.Records.{undecided}
@@ -25,7 +24,7 @@ use Rattle.protocol.specs.Knowledge.{Settled, Watched, Taken, Made, settled_kept
 -- a copy of phase q whose prev is p, of the sibling's kind
 pub record NewCopy (f : Fixed) (p q kind : ℕ) : Type 0 where
   pub phase : f.phase ≡ q
-  pub prev : f.prev ≡ At (node p)
+  pub prev : f.prev ≡ Some (node p)
   pub alike : f.kind ≡ kind
 
 -- gp, p, l and the sibling are four nodes

@@ -1,5 +1,5 @@
 -- Each turn of HELP leaves it one turn less: twelve at most from line 111 on.
-use Rattle.std.specs.Prelude.{ℕ, suc, ◌+◌, ◌*◌, ◌-◌, ◌≤◌, ◌<◌, ltb}
+use Rattle.std.specs.Prelude.{ℕ, suc, ◌+◌, ◌*◌, ◌-◌, ◌≤◌, ◌<◌, ltb, Option, None, Some}
 use native.Mathlib.Omega.{arith}
 use borrow.Author.Tests.{ltb-true}
 use Rattle.laws.specs.Choice.{fork}
@@ -14,10 +14,10 @@ use Rattle.steps.specs.Help.{counter111, state114, frozen119, state125, help_ste
 use Rattle.protocol.specs.ScanPlaces.{help_left}
 
 -- what a move leaves, of so many turns before it
-abbrev pub Falls : ℕ → HelpMove → Type 0
-Falls n help.Crooked = Unit {0}
-Falls n (help.Goes e i b) = suc (help_left b i) ≤ n
-Falls n (help.Done done) = 1 ≤ n
+abbrev pub Falls : ℕ → Option HelpMove → Type 0
+Falls n None = Unit {0}
+Falls n (Some (help.Goes e i b)) = suc (help_left b i) ≤ n
+Falls n (Some (help.Done done)) = 1 ≤ n
 
 module _ (s : Tables) (r : RecordNo) (i : ℕ) (most : count_at s.records r ≤ 4) where
   falls119 : Falls ((4 - i) * 2 + 4) (frozen119 s.nodes s.records r i)

@@ -1,6 +1,6 @@
 -- HELP's step on sound tables is one of the turns of HelpTurns: never crooked, and its next step knows what it needs.
 use Prim.Native.Nat.{ℕ, zero, suc, ◌+◌, ◌≤◌, ◌<◌}
-use Rattle.std.specs.Prelude.{◌≡◌, refl, ◌≢◌, ◌⊎◌, Bool, true, ltb}
+use Rattle.std.specs.Prelude.{◌≡◌, refl, ◌≢◌, ◌⊎◌, Bool, true, ltb, Option, None, Some}
 use Rattle.std.proofs.Common.{sym, ◌∙◌}
 use Rattle.std.proofs.Math.Path.{subst}
 use Rattle.std.proofs.Math.Bool.{false, true≢false}
@@ -49,10 +49,10 @@ other_words u v e d =
     true≢false (sym same ∙ (rw d at e))
 
 module _ (w : ℕ) (s : Tables) (h : TablesSound s) (G : Ghost) (H : Holds (view s) G) (r : ℕ) (sh : Shown (view s) G r) where
-  abbrev pub Moved : HelpMove → Type 0
-  Moved help.Crooked = ⊥
-  Moved (help.Goes e i b) = Helped w (view s) (view (apply e s)) G r i b
-  Moved (help.Done done) = Unit {0}
+  abbrev pub Moved : Option HelpMove → Type 0
+  Moved None = ⊥
+  Moved (Some (help.Goes e i b)) = Helped w (view s) (view (apply e s)) G r i b
+  Moved (Some (help.Done done)) = Unit {0}
 
   R : RecordHolds (view s) G r ((view s).filling r)
   R = H.records r sh.filled
@@ -66,11 +66,11 @@ module _ (w : ℕ) (s : Tables) (h : TablesSound s) (G : Ghost) (H : Holds (view
   unfolding view
   node_row n l = let a : n < s.totals.nodes = H.used n l in let m = h.used.most_nodes in omega arith
 
-  by_state : (v : ℕ) (b : HelpStep) → Helped w (view s) (w_state (view s) r v) G r 0 b → Moved (help.Goes (effect.SetState (record_no r) v) 0 b)
+  by_state : (v : ℕ) (b : HelpStep) → Helped w (view s) (w_state (view s) r v) G r 0 b → Moved (Some (help.Goes (effect.SetState (record_no r) v) 0 b))
   unfolding apply
   by_state v b g = subst (λ X. Helped w (view s) X G r 0 b) (sym (view-set_state s.totals s.nodes s.records s.totals.m h.record_rows (record_no r) v record_row_lem)) g
 
-  reads : (i : ℕ) (b : HelpStep) → Helped w (view s) (view s) G r i b → Moved (help.Goes effect.Nothing i b)
+  reads : (i : ℕ) (b : HelpStep) → Helped w (view s) (view s) G r i b → Moved (Some (help.Goes effect.Nothing i b))
   unfolding apply
   reads i b g = g
 
@@ -79,9 +79,9 @@ module _ (w : ℕ) (s : Tables) (h : TablesSound s) (G : Ghost) (H : Holds (view
   unfolding counter111
   counter_moves = fork Moved _ (λ _. reads 0 Try113 (stays w (view s) G H r sh 0 Try113 tt)) (λ _. reads 0 Abort112 (stays w (view s) G H r sh 0 Abort112 tt))
 
-  state_moves : (v : ℕ) → ((view s).state r ≡ undecided → Helped w (view s) (w_state (view s) r v) G r 0 State114) → Moved (help.Goes (state_cas s.records (record_no r) v) 0 State114)
+  state_moves : (v : ℕ) → ((view s).state r ≡ undecided → Helped w (view s) (w_state (view s) r v) G r 0 State114) → Moved (Some (help.Goes (state_cas s.records (record_no r) v) 0 State114))
   unfolding state_cas view
-  state_moves v set = fork (λ e. Moved (help.Goes e 0 State114)) (eqb (state_at s.records (record_no r)) undecided)
+  state_moves v set = fork (λ e. Moved (Some (help.Goes e 0 State114))) (eqb (state_at s.records (record_no r)) undecided)
       (λ e. by_state v State114 (set (eqb-true _ _ e)))
       (λ e. reads 0 State114 (begun w (view s) G H r sh (eqb-false _ _ e)))
 
@@ -110,26 +110,26 @@ module _ (w : ℕ) (s : Tables) (h : TablesSound s) (G : Ghost) (H : Holds (view
     row117 : node_of ((view s).filling r) i < s.totals.n
     row117 = node_row _ (R.lists.linked i a.list)
 
-    hits117 : same_update (update_at s.nodes entry.node) entry.old ≡ true → Moved (help.Goes (effect.Freeze entry.node (update entry.mark (record_no r))) i Frozen119)
+    hits117 : same_update (update_at s.nodes entry.node) entry.old ≡ true → Moved (Some (help.Goes (effect.Freeze entry.node (update entry.mark (record_no r))) i Frozen119))
     unfolding apply view
     hits117 t = subst (λ X. Helped w (view s) X G r i Frozen119) (sym (view-set_update s.totals s.nodes s.records s.totals.n h.node-rows entry.node (update entry.mark (record_no r)) row117))
         (freeze117 w (view s) G H r sh i a entry.mark (same_words _ _ t))
 
-    misses117 : same_update (update_at s.nodes entry.node) entry.old ≡ false → Moved (help.Goes effect.Nothing i Frozen119)
+    misses117 : same_update (update_at s.nodes entry.node) entry.old ≡ false → Moved (Some (help.Goes effect.Nothing i Frozen119))
     unfolding view
     misses117 t = reads i Frozen119 (missed117 w (view s) G H r sh i a (other_words _ _ t))
 
-    moves117 : Moved (help.Goes (freeze_cas s.nodes s.records (record_no r) i) i Frozen119)
+    moves117 : Moved (Some (help.Goes (freeze_cas s.nodes s.records (record_no r) i) i Frozen119))
     unfolding freeze_cas
-    moves117 = rw entry_is (fork (λ e. Moved (help.Goes e i Frozen119)) _ hits117 misses117)
+    moves117 = rw entry_is (fork (λ e. Moved (Some (help.Goes e i Frozen119))) _ hits117 misses117)
 
-    here119 : eqb (update_at s.nodes entry.node).info.0 r ≡ true → Moved (pick (ltb i (count_at s.records (record_no r))) (help.Goes effect.Nothing (i + 1) Freeze117) (help.Goes effect.Nothing 0 Child123))
+    here119 : eqb (update_at s.nodes entry.node).info.0 r ≡ true → Moved (pick (ltb i (count_at s.records (record_no r))) (Some (help.Goes effect.Nothing (i + 1) Freeze117)) (Some (help.Goes effect.Nothing 0 Child123)))
     unfolding view filling_at
     here119 t = fork Moved (ltb i (count_at s.records (record_no r)))
         (λ l. let one : i + 1 ≡ suc i = omega arith in rw one (reads (suc i) Freeze117 (next119 w (view s) G H r sh i a (eqb-true _ _ t) (ltb-true _ _ l))))
         (λ l. reads 0 Child123 (last119 w (view s) G H r sh i a (eqb-true _ _ t) (λ m. let a : i < count_at s.records (record_no r) = m in let b : count_at s.records (record_no r) ≤ i = ltb-false _ _ l in omega arith)))
 
-    gone119 : Frozen i → eqb (update_at s.nodes entry.node).info.0 r ≡ false → Moved (help.Goes effect.Nothing 0 State125)
+    gone119 : Frozen i → eqb (update_at s.nodes entry.node).info.0 r ≡ false → Moved (Some (help.Goes effect.Nothing 0 State125))
     unfolding view
     gone119 k t = reads 0 State125 (lost119 w (view s) G H r sh i a k (eqb-false _ _ t))
 
@@ -144,18 +144,18 @@ module _ (w : ℕ) (s : Tables) (h : TablesSound s) (G : Ghost) (H : Holds (view
   abbrev left : Bool
   left = ltb (key_at s.nodes (new_child_at s.records (record_no r))) (key_at s.nodes (par_at s.records (record_no r)))
 
-  hits123 : At (view s) G r 0 Child123 → eqb (child_at s.nodes (par_at s.records (record_no r)) left).0 (old_child_at s.records (record_no r)).0 ≡ true → Moved (help.Goes (effect.Link (par_at s.records (record_no r)) left (new_child_at s.records (record_no r))) 0 Commit124)
+  hits123 : At (view s) G r 0 Child123 → eqb (child_at s.nodes (par_at s.records (record_no r)) left).0 (old_child_at s.records (record_no r)).0 ≡ true → Moved (Some (help.Goes (effect.Link (par_at s.records (record_no r)) left (new_child_at s.records (record_no r))) 0 Commit124))
   unfolding apply view filling_at key_at fixed_at
   hits123 a t = subst (λ X. Helped w (view s) X G r 0 Commit124) (sym (view-set_child s.totals s.nodes s.records s.totals.n h.node-rows (par_at s.records (record_no r)) left (new_child_at s.records (record_no r)) row123))
       (child123 w (view s) G H r sh a (eqb-true _ _ t))
 
-  misses123 : At (view s) G r 0 Child123 → eqb (child_at s.nodes (par_at s.records (record_no r)) left).0 (old_child_at s.records (record_no r)).0 ≡ false → Moved (help.Goes effect.Nothing 0 Commit124)
+  misses123 : At (view s) G r 0 Child123 → eqb (child_at s.nodes (par_at s.records (record_no r)) left).0 (old_child_at s.records (record_no r)).0 ≡ false → Moved (Some (help.Goes effect.Nothing 0 Commit124))
   unfolding view filling_at key_at fixed_at
   misses123 a t = reads 0 Commit124 (missed123 w (view s) G H r sh a (eqb-false _ _ t))
 
-  moves123 : At (view s) G r 0 Child123 → Moved (help.Goes (cas_child s.nodes (par_at s.records (record_no r)) (old_child_at s.records (record_no r)) (new_child_at s.records (record_no r))) 0 Commit124)
+  moves123 : At (view s) G r 0 Child123 → Moved (Some (help.Goes (cas_child s.nodes (par_at s.records (record_no r)) (old_child_at s.records (record_no r)) (new_child_at s.records (record_no r))) 0 Commit124))
   unfolding cas_child same_node
-  moves123 a = fork (λ e. Moved (help.Goes e 0 Commit124)) _ (hits123 a) (misses123 a)
+  moves123 a = fork (λ e. Moved (Some (help.Goes e 0 Commit124))) _ (hits123 a) (misses123 a)
 
   moves125 : At (view s) G r 0 State125 → Moved (state125 s.records (record_no r))
   unfolding state125 view

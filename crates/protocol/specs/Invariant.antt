@@ -1,7 +1,6 @@
 -- The shared invariant, clause by clause.
-use Rattle.std.specs.Prelude.{ℕ, ◌≤◌, ◌<◌, ◌≡◌, ◌≢◌, ◌⊎◌, Bool, true, false}
+use Rattle.std.specs.Prelude.{ℕ, ◌≤◌, ◌<◌, ◌≡◌, ◌≢◌, ◌⊎◌, Bool, true, false, None, Some}
 use Rattle.shapes.specs.declared.Filling.{Filling}
-use Rattle.shapes.specs.declared.MaybeNode.TheVariants.{Absent, At}
 use Rattle.tables.specs.Names.{node}
 use Rattle.tables.specs.NodeWrites.{Fixed}
 use Rattle.tables.specs.Records.{trying, committed, aborted}
@@ -28,7 +27,7 @@ pub record Lists (isLinked : ℕ → Bool) (fixed : ℕ → Fixed) (f : Filling)
 pub record Makes (nodes : ℕ) (maker : ℕ → ℕ) (fixed : ℕ → Fixed) (r : ℕ) (f : Filling) : Type 0 where
   pub new_used : new_child_of f < nodes
   pub made : maker (new_child_of f) ≡ r
-  pub prev : (fixed (new_child_of f)).prev ≡ At (node (old_child_of f))
+  pub prev : (fixed (new_child_of f)).prev ≡ Some (node (old_child_of f))
   pub new-phase : (fixed (new_child_of f)).phase ≡ seq_of f
 
 -- what hangs below the new child of an insert: two leaves, made with it
@@ -41,7 +40,7 @@ pub record PlantedIn (nodes : ℕ) (fixed : ℕ → Fixed) (kid : Bool → ℕ �
   pub leaf_right : (fixed right).kind ≡ 0
   pub phase-left : (fixed left).phase ≡ seq_of f
   pub phase_right : (fixed right).phase ≡ seq_of f
-  pub no_prev : ((fixed left).prev ≡ Absent) × ((fixed right).prev ≡ Absent)
+  pub no_prev : ((fixed left).prev ≡ None) × ((fixed right).prev ≡ None)
   pub used : (left < nodes) × (right < nodes)
   pub made : (maker left ≡ r) × (maker right ≡ r)
   pub fresh : isLinked (new_child_of f) ≡ false → (isLinked left ≡ false) × (isLinked right ≡ false)
@@ -101,4 +100,4 @@ pub record Holds (X : View) (G : Ghost) : Type 0 where
   -- what is linked
   pub used : (v : ℕ) → G.linked v ≡ true → v < X.nodes
   pub kids : (v : ℕ) → G.linked v ≡ true → (X.fixed v).kind ≡ 1 → (s : Bool) → G.linked (X.kid s v) ≡ true
-  pub prevs : (v x : ℕ) → G.linked v ≡ true → (X.fixed v).prev ≡ At (node x) → G.linked x ≡ true
+  pub prevs : (v x : ℕ) → G.linked v ≡ true → (X.fixed v).prev ≡ Some (node x) → G.linked x ≡ true

@@ -1,10 +1,9 @@
 -- A child CAS that succeeds keeps the shared invariant: all of the record's words stand, so nobody else touches its nodes.
-use Rattle.std.specs.Prelude.{ℕ, ◌≤◌, ◌<◌, ◌≡◌, refl, ◌≢◌, ◌⊎◌, Bool, true, false}
+use Rattle.std.specs.Prelude.{ℕ, ◌≤◌, ◌<◌, ◌≡◌, refl, ◌≢◌, ◌⊎◌, Bool, true, false, Some}
 use Rattle.std.proofs.Common.{sym, ap, ◌∙◌, subst, inl, inr, true≢false, arith}
 use Rattle.std.proofs.Math.Decide.{ℕ_discrete}
 use Rattle.laws.specs.Changed.{change_on, change_on_same, change_on_other, change_on_case}
 use Rattle.shapes.specs.declared.Update.{Update}
-use Rattle.shapes.specs.declared.MaybeNode.TheVariants.{At}
 use Rattle.tables.specs.Names.{node}
 use Rattle.tables.specs.Records.{trying, committed, aborted}
 use Rattle.views.specs.View.{View, w_kid}
@@ -101,7 +100,7 @@ module _ (X : View) (G : Ghost) (H : Holds X G) (r : ℕ) (f : Filled X r) (t : 
   module _ (linked' : ℕ → Bool) (more : (n : ℕ) → G.linked n ≡ true → linked' n ≡ true) (only : (n : ℕ) → G.maker n ≢ r → linked' n ≡ G.linked n)
       (now : linked' (new_child_of (X.filling r)) ≡ true) (used' : (n : ℕ) → linked' n ≡ true → n < X.nodes)
       (kids' : (n : ℕ) → linked' n ≡ true → G.linked n ≡ false → (X.fixed n).kind ≡ 1 → (s : Bool) → linked' (K' s n) ≡ true)
-      (prevs' : (n y : ℕ) → linked' n ≡ true → G.linked n ≡ false → (X.fixed n).prev ≡ At (node y) → linked' y ≡ true) where
+      (prevs' : (n y : ℕ) → linked' n ≡ true → G.linked n ≡ false → (X.fixed n).prev ≡ Some (node y) → linked' y ≡ true) where
     abbrev G' : Ghost
     G' = g_linked G linked'
 
@@ -195,6 +194,6 @@ module _ (X : View) (G : Ghost) (H : Holds X G) (r : ℕ) (f : Filled X r) (t : 
         by v true e h k s = kid_case (λ c. linked' c ≡ true) X.kid (side_of X (X.filling r)) (par_of (X.filling r)) (new_child_of (X.filling r)) s v (λ _ _. now) (more _ (H.kids v e k s))
         by v false e h k s = kids' v h e k s
 
-        back : (v y : ℕ) (b : Bool) → G.linked v ≡ b → linked' v ≡ true → (X.fixed v).prev ≡ At (node y) → linked' y ≡ true
+        back : (v y : ℕ) (b : Bool) → G.linked v ≡ b → linked' v ≡ true → (X.fixed v).prev ≡ Some (node y) → linked' y ≡ true
         back v y true e h p = more y (H.prevs v y e p)
         back v y false e h p = prevs' v y h e p

@@ -1,11 +1,9 @@
 -- The child CAS of a record that succeeds: what is linked by it, and that it fits the trees of every version.
-use Rattle.std.specs.Prelude.{ℕ, ◌≤◌, ◌<◌, ◌≡◌, refl, ◌≢◌, ◌⊎◌, Bool, true, false}
+use Rattle.std.specs.Prelude.{ℕ, ◌≤◌, ◌<◌, ◌≡◌, refl, ◌≢◌, ◌⊎◌, Bool, true, false, Option, None, Some}
 use Rattle.std.proofs.Common.{sym, ap, ◌∙◌, subst, inl, inr, true≢false, arith}
 use Rattle.laws.specs.Changed.{change, change_same, change_other, change_case, change_on}
 use Rattle.shapes.specs.declared.Filling.{Filling}
-use Rattle.shapes.specs.declared.MaybeNode.{MaybeNode}
 use Rattle.shapes.specs.declared.NodeNo.{NodeNo}
-use Rattle.shapes.specs.declared.MaybeNode.TheVariants.{Absent, At}
 use Rattle.tables.specs.Names.{node}
 use Rattle.trees.specs.Change.{Fits}
 use Rattle.trees.specs.Updates.{Insert, Delete, insert-fits, delete-fits}
@@ -43,8 +41,8 @@ module _ (w : ℕ) (X : View) (G : Ghost) (H : Holds X G) (r : ℕ) (g : Filled 
   held : (j : ℕ) → InList (X.filling r) j → Held X r (X.filling r) j
   held j i = record { open' = hit; word = inr (linking.stands X G H r g t all hit j i, linking.live X G H r g t all hit) }
 
-  replaces : (X.fixed (new_child_of (X.filling r))).prev ≡ At (node (link_of X (X.filling r)))
-  replaces = R.makes.prev ∙ ap (λ n. At (node n)) (sym hit)
+  replaces : (X.fixed (new_child_of (X.filling r))).prev ≡ Some (node (link_of X (X.filling r)))
+  replaces = R.makes.prev ∙ ap (λ n. Some (node n)) (sym hit)
 
   old-phase : (X.fixed (link_of X (X.filling r))).phase ≤ (X.fixed (new_child_of (X.filling r))).phase
   old-phase = rw (hit, R.makes.new-phase) R.lists.old-phase
@@ -114,13 +112,13 @@ module _ (w : ℕ) (X : View) (G : Ghost) (H : Holds X G) (r : ℕ) (g : Filled 
   new_kid : (s : Bool) → change_on X.kid (side_of X (X.filling r)) (par_of (X.filling r)) (new_child_of (X.filling r)) s (new_child_of (X.filling r)) ≡ X.kid s (new_child_of (X.filling r))
   new_kid s = kid_other X.kid (side_of X (X.filling r)) (par_of (X.filling r)) (new_child_of (X.filling r)) s (new_child_of (X.filling r)) off_parent
 
-  prev_is : (y : ℕ) → (X.fixed (new_child_of (X.filling r))).prev ≡ At (node y) → y ≡ old_child_of (X.filling r)
+  prev_is : (y : ℕ) → (X.fixed (new_child_of (X.filling r))).prev ≡ Some (node y) → y ≡ old_child_of (X.filling r)
   prev_is y e =
-      let same : At (node y) ≡ At (node (old_child_of (X.filling r))) = sym e ∙ R.makes.prev in
+      let same : Some (node y) ≡ Some (node (old_child_of (X.filling r))) = sym e ∙ R.makes.prev in
       let named : ◌≡◌ {A = NodeNo} (node y) (node (old_child_of (X.filling r))) = cc in
       ap (λ (x : NodeNo). x.0) named
 
-  absent_no : {A : Type 0} (m : MaybeNode) (y : ℕ) → m ≡ Absent → m ≡ At (node y) → A
+  absent_no : {A : Type 0} (m : Option NodeNo) (y : ℕ) → m ≡ None → m ≡ Some (node y) → A
   absent_no m y a b = let z : ◌≡◌ {A = ℕ} 0 1 = cc in absurd (omega arith)
 
   -- the turn as a whole
@@ -162,7 +160,7 @@ module _ (w : ℕ) (X : View) (G : Ghost) (H : Holds X G) (r : ℕ) (g : Filled 
         | inr d ↦ not_both _ d u
       ]
 
-      prevs' : (n y : ℕ) → L n ≡ true → G.linked n ≡ false → (X.fixed n).prev ≡ At (node y) → L y ≡ true
+      prevs' : (n y : ℕ) → L n ≡ true → G.linked n ≡ false → (X.fixed n).prev ≡ Some (node y) → L y ≡ true
       prevs' n y h u p = elim (linked_was G.linked _ n h) [ inl e ↦ rw (prev_is y (rw e at p)) (more _ old_linked) | inr d ↦ not_both _ d u ]
 
   planted-link : Planted X G r (X.filling r) → LinkedTurn
@@ -219,7 +217,7 @@ module _ (w : ℕ) (X : View) (G : Ghost) (H : Holds X G) (r : ℕ) (g : Filled 
         | inr (inr (inr d)) ↦ not_both _ d u
       ]
 
-      prevs' : (n y : ℕ) → L n ≡ true → G.linked n ≡ false → (X.fixed n).prev ≡ At (node y) → L y ≡ true
+      prevs' : (n y : ℕ) → L n ≡ true → G.linked n ≡ false → (X.fixed n).prev ≡ Some (node y) → L y ≡ true
       prevs' n y h u q = elim (was n h) [
         | inl e ↦ absent_no _ y p.no_prev.1 (rw e at q)
         | inr (inl e) ↦ absent_no _ y p.no_prev.0 (rw e at q)

@@ -1,8 +1,7 @@
 -- The three nodes of an insert, from their taking to line 102.
-use Rattle.std.specs.Prelude.{ℕ, ◌≡◌, ◌≢◌, true, false}
+use Rattle.std.specs.Prelude.{ℕ, ◌≡◌, ◌≢◌, true, false, None, Some}
 use Rattle.std.proofs.Common.{◌∙◌}
 use Rattle.shapes.specs.declared.Filling.{Filling}
-use Rattle.shapes.specs.declared.MaybeNode.TheVariants.{Absent, At}
 use Rattle.tables.specs.Names.{node}
 use Rattle.tables.specs.NodeWrites.{Fixed}
 use Rattle.tables.specs.Records.{undecided}
@@ -17,13 +16,13 @@ use Rattle.protocol.specs.Knowledge.{Taken, Made, made_kept, made_kids, made_fix
 pub record NewLeaf (f : Fixed) (q : ℕ) : Type 0 where
   pub leaf : f.kind ≡ 0
   pub phase : f.phase ≡ q
-  pub no_prev : f.prev ≡ Absent
+  pub no_prev : f.prev ≡ None
 
 -- an internal node of phase q whose prev is l
 pub record NewTop (f : Fixed) (l q : ℕ) : Type 0 where
   pub inner : f.kind ≡ 1
   pub phase : f.phase ≡ q
-  pub prev : f.prev ≡ At (node l)
+  pub prev : f.prev ≡ Some (node l)
 
 pub record Plants (X : View) (G : Ghost) (r top l q : ℕ) : Type 0 where
   pub left : ℕ

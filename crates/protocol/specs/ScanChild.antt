@@ -1,21 +1,16 @@
 -- What a turn of a scan is to give; and where it reads a child, that it does: never crooked, and where it answers it has taken at most 2 + 16 × I turns.
-use Rattle.std.specs.Prelude.{ℕ, suc, ◌+◌, ◌*◌, ◌≤◌, ◌<◌, ◌≡◌, refl, List, ◌∷◌, Bool, not, eqb, ltb, length}
+use Rattle.std.specs.Prelude.{ℕ, suc, ◌+◌, ◌*◌, ◌≤◌, ◌<◌, ◌≡◌, refl, List, ◌∷◌, Bool, not, eqb, ltb, length, Option, None, Some}
 use Rattle.std.proofs.Common.{ap, inl, true≢false, arith}
 use Rattle.std.proofs.Math.Bool.{true, false}
 use borrow.Author.Tests.{ltb-false, eqb-false}
 use Rattle.laws.specs.Choice.{pick_true, fork}
 use Rattle.shapes.specs.declared.NodeNo.{NodeNo}
 use Rattle.shapes.specs.declared.Key.{Key}
-use Rattle.shapes.specs.declared.MaybeNode.{MaybeNode}
-use Rattle.shapes.specs.declared.MaybeNode.TheVariants.{At}
 use Rattle.shapes.specs.declared.PendingChange.{PendingChange}
-use Rattle.shapes.specs.declared.FoundChange.{FoundChange}
-use Rattle.shapes.specs.declared.FoundChange.TheVariants as found
 use Rattle.shapes.specs.declared.Next.{Next}
 use Rattle.shapes.specs.declared.Next.TheVariants as next
 use Rattle.shapes.specs.declared.Step.{Step}
-use Rattle.shapes.specs.declared.Decision.{Decision}
-use Rattle.shapes.specs.declared.Decision.TheVariants as decision
+use Rattle.shapes.specs.Outcomes.{Decision}
 use Rattle.tables.specs.Names.{node}
 use Rattle.tables.specs.Nodes.{is_internal, rank_at, child_at}
 use Rattle.tables.specs.NodeWrites.{fixed_at}
@@ -47,10 +42,10 @@ module _ (w : ℕ) (s : Tables) (G : Ghost) (i : ℕ) (us : List ℕ) (keys T : 
   Onward d (next.Answers a) = Gives w (view s) (view (apply d.effect s)) G (λ G'. Unit {0}) × (suc T ≤ 2 + 16 * inner_nodes (view (apply d.effect s)) i)
 
   abbrev pub Decided : Decision → Type 0
-  Decided decision.Crooked = ⊥
-  Decided (decision.Go d) = Onward d d.next
+  Decided None = ⊥
+  Decided (Some d) = Onward d d.next
 
-  pub on_through : (m : MaybeNode) (x : NodeNo) (f : NodeNo → Decision) → m ≡ At x → Decided (f x) → Decided (through m f)
+  pub on_through : (m : Option NodeNo) (x : NodeNo) (f : NodeNo → Decision) → m ≡ Some x → Decided (f x) → Decided (through m f)
   unfolding through
   on_through m x f e d = rw e d
 
@@ -59,7 +54,7 @@ pub looks : (w : ℕ) (s : Tables) (G : Ghost) (H : Holds (view s) G) {Q : Ghost
 looks w s G H q = record { after = G; holds = H; rely = rely_same w (view s) G; trees = inl (record { fixed = λ n u. refl; kid = λ e n u. refl }); knows = q }
 
 -- an internal node may be used as a parent
-pub as_parent_lem : (s : Tables) (x : NodeNo) → leaf_of ((view s).fixed x.0) ≡ false → as_parent s.nodes (At x) ≡ At x
+pub as_parent_lem : (s : Tables) (x : NodeNo) → leaf_of ((view s).fixed x.0) ≡ false → as_parent s.nodes (Some x) ≡ Some x
 unfolding as_parent is_internal leaf_of view fixed_at
 as_parent_lem s x e = pick_true _ _ _ (yes_no _ e)
   where
@@ -80,14 +75,14 @@ module _ (w : ℕ) (s : Tables) (h : TablesSound s) (G : Ghost) (H : Holds (view
   abbrev On : Stand → ℕ → Type 0
   On stand k = OnWalk (view s) G g.seq.0 stand (waits_next us change) k (suc T) 0
 
-  done_leaf : (add : FoundChange) (k : ℕ) → On between (found_left keys add) → D (leaves g change add n k)
+  done_leaf : (add : Option Key) (k : ℕ) → On between (found_left keys add) → D (leaves g change add n k)
   unfolding leaves apply
   done_leaf add k on = fork D (eqb n 0)
       (λ _. (looks w s G H tt, omega (arith, on.turns, visits_most (view s) G H on)))
       (λ e. looks w s G H (on, let some : n ≡ 0 → ⊥ = eqb-false _ _ e in omega (arith, long)))
 
   -- the key of a leaf is added, or not
-  seen_leaf : (c : NodeNo) (add : FoundChange) → found_left keys add ≤ suc keys → leaf_of ((view s).fixed c.0) ≡ true → On (at c.0) keys → On between (found_left keys add)
+  seen_leaf : (c : NodeNo) (add : Option Key) → found_left keys add ≤ suc keys → leaf_of ((view s).fixed c.0) ≡ true → On (at c.0) keys → On between (found_left keys add)
   seen_leaf c add l leaf on = record { visited = on.visited; leaves = c.0 ∷ on.leaves; walks = sees (view s) G H true on.walks leaf; keys = omega (arith, on.keys); turns = on.turns }
 
   room : (c : NodeNo) → leaf_of ((view s).fixed c.0) ≡ true → On (at c.0) keys → keys < s.totals.n
@@ -102,8 +97,8 @@ module _ (w : ℕ) (s : Tables) (h : TablesSound s) (G : Ghost) (H : Holds (view
   comes c on = fork D (is_internal s.nodes c)
       (λ e. looks w s G H (record { on = on; inner = internal s c true e }))
       (λ e. let leaf = internal s c false e in fork D _
-      (λ _. fork D (ltb keys s.totals.n) (λ _. done_leaf (found.Add (key_of c)) _ (seen_leaf c (found.Add (key_of c)) (omega arith) leaf on)) (λ f. let full : s.totals.n ≤ keys = ltb-false _ _ f in absurd (omega (arith, room c leaf on))))
-      (λ _. done_leaf found.Keep _ (seen_leaf c found.Keep (omega arith) leaf on)))
+      (λ _. fork D (ltb keys s.totals.n) (λ _. done_leaf (Some (key_of c)) _ (seen_leaf c (Some (key_of c)) (omega arith) leaf on)) (λ f. let full : s.totals.n ≤ keys = ltb-false _ _ f in absurd (omega (arith, room c leaf on))))
+      (λ _. done_leaf None _ (seen_leaf c None (omega arith) leaf on)))
 
   child_used : (x : ℕ) (left : Bool) → Linked G x → leaf_of ((view s).fixed x) ≡ false → (child_at s.nodes (node x) left).0 < s.totals.nodes
   unfolding view

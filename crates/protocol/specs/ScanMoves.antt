@@ -10,7 +10,7 @@ use Rattle.shapes.specs.declared.Key.{Key}
 use Rattle.shapes.specs.declared.Locals.{Locals}
 use Rattle.shapes.specs.declared.Place.{Place}
 use Rattle.shapes.specs.declared.PendingChange.TheVariants as pending
-use Rattle.shapes.specs.declared.Decision.{Decision}
+use Rattle.shapes.specs.Outcomes.{Decision}
 use Rattle.tables.specs.Names.{node}
 use Rattle.tables.specs.World.{Tables}
 use Rattle.sound.specs.Meaning.{TablesSound}

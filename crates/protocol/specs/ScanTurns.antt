@@ -1,5 +1,5 @@
 -- A scan's turns at lines 131, 139 and 140 and inside HELP: never crooked, and it knows what its next place needs.
-use Rattle.std.specs.Prelude.{ℕ, suc, ◌+◌, ◌≤◌, ◌<◌, refl, List, [], ltb}
+use Rattle.std.specs.Prelude.{ℕ, suc, ◌+◌, ◌≤◌, ◌<◌, refl, List, [], ltb, Option, None, Some}
 use Rattle.std.proofs.Common.{inl, arith}
 use borrow.Author.Tests.{ltb-true}
 use Rattle.laws.specs.Choice.{fork}
@@ -10,7 +10,7 @@ use Rattle.shapes.specs.declared.HelpMove.{HelpMove}
 use Rattle.shapes.specs.declared.HelpMove.TheVariants as help
 use Rattle.shapes.specs.declared.Back.TheVariants.{Node}
 use Rattle.shapes.specs.declared.Place.TheVariants as place
-use Rattle.shapes.specs.declared.Decision.{Decision}
+use Rattle.shapes.specs.Outcomes.{Decision}
 use Rattle.tables.specs.Names.{node, record_no}
 use Rattle.tables.specs.Nodes.{update_at}
 use Rattle.tables.specs.NodeWrites.{fixed_at}
@@ -92,17 +92,17 @@ module _ (w : ℕ) (s : Tables) (h : TablesSound s) (G : Ghost) (H : Holds (view
 
   -- ---- HELP
 
-  help_next_lem : (b : HelpStep) → Here (T + help_left b v.i) 14 → (sh : Shown (view s) G v.info.0) (m : HelpMove) → Moved w s h G H v.info.0 sh m → Falls (help_left b v.i) m → D (help_next Node v m)
+  help_next_lem : (b : HelpStep) → Here (T + help_left b v.i) 14 → (sh : Shown (view s) G v.info.0) (m : Option HelpMove) → Moved w s h G H v.info.0 sh m → Falls (help_left b v.i) m → D (help_next Node v m)
   unfolding help_next back_to apply found_left
-  help_next_lem b k sh help.Crooked moved falls = moved
-  help_next_lem b k sh (help.Goes e j c) moved falls = record {
+  help_next_lem b k sh None moved falls = moved
+  help_next_lem b k sh (Some (help.Goes e j c)) moved falls = record {
     after = moved.after;
     holds = moved.holds;
     rely = moved.rely;
     trees = moved.trees;
     knows = (paid (view (apply e s)) moved.after (suc T + help_left c j) 14 (omega arith) (at_kept w (view s) (view (apply e s)) G moved.after H moved.rely moved.trees k), moved.knows);
   }
-  help_next_lem b k sh (help.Done done) moved falls = looks w s G H (paid (view s) G (suc T) 14 (omega arith) k)
+  help_next_lem b k sh (Some (help.Done done)) moved falls = looks w s G H (paid (view s) G (suc T) 14 (omega arith) k)
 
   most_listed : (r : ℕ) → Filled (view s) r → count_at s.records (record_no r) ≤ 4
   unfolding view filling_at

@@ -1,9 +1,7 @@
 -- What an attempt knows on its way down (line 39), at its leaf, and of the sibling (line 182): a walk of its phase, whose nodes are never twice the same.
-use Rattle.std.specs.Prelude.{ℕ, ◌≤◌, ◌≡◌, refl, List, [], ◌∷◌, Bool, true, false, not}
+use Rattle.std.specs.Prelude.{ℕ, ◌≤◌, ◌≡◌, refl, List, [], ◌∷◌, Bool, true, false, not, Option, None, Some}
 use Rattle.std.proofs.Common.{sym, ap, ◌∙◌, subst, inl, inr, true≢false}
 use Rattle.shapes.specs.declared.NodeNo.{NodeNo}
-use Rattle.shapes.specs.declared.MaybeNode.{MaybeNode}
-use Rattle.shapes.specs.declared.MaybeNode.TheVariants.{Absent, At}
 use Rattle.trees.specs.Members.{Mem}
 use Rattle.trees.specs.Version.{Child, walk_low}
 use Rattle.trees.specs.Scanning.{at, between, current_new}
@@ -16,24 +14,24 @@ use Rattle.protocol.specs.Deleting.{Four}
 use Rattle.protocol.specs.Walks.{Walks, walks_kept, pushes, visits, sees, pops}
 
 -- gp is absent, or one of the nodes gone through
-abbrev pub GoneBy : MaybeNode → List ℕ → Type 0
-GoneBy Absent vs = Unit {0}
-GoneBy (At g) vs = Mem g.0 vs
+abbrev pub GoneBy : Option NodeNo → List ℕ → Type 0
+GoneBy None vs = Unit {0}
+GoneBy (Some g) vs = Mem g.0 vs
 
 -- at p, on the way down; the walk may yet be taken for one with what waits on either side
-pub record Searching (X : View) (G : Ghost) (q : ℕ) (gp : MaybeNode) (p : ℕ) : Type 0 where
+pub record Searching (X : View) (G : Ghost) (q : ℕ) (gp : Option NodeNo) (p : ℕ) : Type 0 where
   pub gone : List ℕ
   pub walks : (a : Bool) → Walks X G q a (at p) [] gone []
   pub grand : GoneBy gp gone
 
 -- at leaf l, found on the side not a of p
-pub record Landed (X : View) (G : Ghost) (q : ℕ) (gp : MaybeNode) (p l : ℕ) (a : Bool) : Type 0 where
+pub record Landed (X : View) (G : Ghost) (q : ℕ) (gp : Option NodeNo) (p l : ℕ) (a : Bool) : Type 0 where
   pub gone : List ℕ
   pub walks : Walks X G q a between (p ∷ []) (p ∷ gone) (l ∷ [])
   pub grand : GoneBy gp gone
   pub low : (X.fixed l).phase ≤ q
 
-module _ (o : ℕ) (X X' : View) (G G' : Ghost) (H : Holds X G) (L : Rely o X X' G G') (t : TreeStep X X' G G') (q : ℕ) (gp : MaybeNode) (p : ℕ) where
+module _ (o : ℕ) (X X' : View) (G G' : Ghost) (H : Holds X G) (L : Rely o X X' G G') (t : TreeStep X X' G G') (q : ℕ) (gp : Option NodeNo) (p : ℕ) where
   pub searching_kept : Searching X G q gp p → Searching X' G' q gp p
   searching_kept s = record { gone = s.gone; walks = λ a. walks_kept o X X' G G' H L t (s.walks a); grand = s.grand }
 
@@ -42,9 +40,9 @@ module _ (o : ℕ) (X X' : View) (G G' : Ghost) (H : Holds X G) (L : Rely o X X'
 
 -- ---- its own turns
 
-module _ (X : View) (G : Ghost) (H : Holds X G) (q : ℕ) (gp : MaybeNode) (p : NodeNo) (s : Searching X G q gp p.0) (inner : leaf_of (X.fixed p.0) ≡ false) where
+module _ (X : View) (G : Ghost) (H : Holds X G) (q : ℕ) (gp : Option NodeNo) (p : NodeNo) (s : Searching X G q gp p.0) (inner : leaf_of (X.fixed p.0) ≡ false) where
   -- down to an internal node: p is its grandparent's place
-  pub goes_down : (e : Bool) (c : ℕ) → Child (store X) q e p.0 c → Searching X G q (At p) c
+  pub goes_down : (e : Bool) (c : ℕ) → Child (store X) q e p.0 c → Searching X G q (Some p) c
   goes_down e c w = record { gone = p.0 ∷ s.gone; walks = λ a. visits X G H a (s.walks a) e inner w; grand = inl refl }
 
   -- out with a leaf
@@ -53,7 +51,7 @@ module _ (X : View) (G : Ghost) (H : Holds X G) (q : ℕ) (gp : MaybeNode) (p : 
 
 -- ---- what it tells
 
-module _ (X : View) (G : Ghost) (q : ℕ) (gp : MaybeNode) (p l : ℕ) (a : Bool) (s : Landed X G q gp p l a) where
+module _ (X : View) (G : Ghost) (q : ℕ) (gp : Option NodeNo) (p l : ℕ) (a : Bool) (s : Landed X G q gp p l a) where
   pub p_linked : Linked G p
   p_linked = s.walks.visited p (inl refl)
 
@@ -73,7 +71,7 @@ module _ (X : View) (G : Ghost) (q : ℕ) (gp : MaybeNode) (p l : ℕ) (a : Bool
   pub other_child : Holds X G → (c : ℕ) → Child (store X) q a p c → Walks X G q a (at c) [] (p ∷ s.gone) (l ∷ [])
   other_child H c w = pops X G H a s.walks p_inner w
 
-module _ (X : View) (G : Ghost) (q : ℕ) (g : NodeNo) (p l : ℕ) (a : Bool) (s : Landed X G q (At g) p l a) where
+module _ (X : View) (G : Ghost) (q : ℕ) (g : NodeNo) (p l : ℕ) (a : Bool) (s : Landed X G q (Some g) p l a) where
   pub g_is_linked : Linked G g.0
   g_is_linked = s.walks.visited g.0 (inr s.grand)
 
@@ -83,12 +81,12 @@ module _ (X : View) (G : Ghost) (q : ℕ) (g : NodeNo) (p l : ℕ) (a : Bool) (s
   -- gp, p, l and the other child are four nodes
   pub four_nodes : Holds X G → (c : ℕ) → Child (store X) q a p c → Four g.0 p l c
   four_nodes H c w =
-      let new = current_new (other_child X G q (At g) p l a s H c w).scanning in
+      let new = current_new (other_child X G q (Some g) p l a s H c w).scanning in
       record {
         gp = λ e. s.walks.scanning.been.distinct.0 (subst (λ n. Mem n s.gone) e s.grand);
-        gl = λ e. kinds g.0 l e g_inner (l_leaf X G q (At g) p l a s);
+        gl = λ e. kinds g.0 l e g_inner (l_leaf X G q (Some g) p l a s);
         gs = λ e. new.0 (inr (subst (λ n. Mem n s.gone) e s.grand));
-        pl = λ e. kinds p l e (p_inner X G q (At g) p l a s) (l_leaf X G q (At g) p l a s);
+        pl = λ e. kinds p l e (p_inner X G q (Some g) p l a s) (l_leaf X G q (Some g) p l a s);
         ps = λ e. new.0 (inl (sym e));
         ls = λ e. new.2 (inl (sym e));
       }

@@ -1,6 +1,6 @@
 -- The takings of `steps:Apply` on tables with room are those of the view.
 use Prim.Native.Nat.{ℕ, ◌+◌, ◌≤◌, ◌<◌}
-use Rattle.std.specs.Prelude.{◌≡◌, List}
+use Rattle.std.specs.Prelude.{◌≡◌, List, None, Some}
 use Rattle.std.proofs.Math.Path.{refl, ap, subst}
 use Rattle.std.proofs.Common.{sym, ◌∙◌, inl, inr, arith}
 use Rattle.laws.specs.Choice.{fork}
@@ -8,7 +8,6 @@ use Rattle.shapes.specs.declared.NodeNo.{NodeNo}
 use Rattle.shapes.specs.declared.Key.{Key}
 use Rattle.shapes.specs.declared.Phase.{Phase}
 use Rattle.shapes.specs.declared.Rank.{Rank}
-use Rattle.shapes.specs.declared.MaybeNode.TheVariants.{Absent, At}
 use Rattle.shapes.specs.declared.Effect.TheVariants as effect
 use Rattle.tables.specs.Names.{node, record_no, root, finite}
 use Rattle.tables.specs.Rows.{HasRows}
@@ -47,9 +46,9 @@ module _ (s : Tables) (h : TablesSound s) where
       → Gives w (view s) (view (apply (effect.TakeThree k l q) s)) G (λ G'. Taken w (view (apply (effect.TakeThree k l q) s)) G' s.totals.records × Plants (view (apply (effect.TakeThree k l q) s)) G' s.totals.records (s.totals.nodes + 2) l.0 q.0)
   unfolding apply three_nodes top_of view
   three_moves w G H k l q room room' = fork (λ ns. Gives w (view s) (view (tables (taken s.totals 3) ns rs)) G (λ G'. Taken w (view (tables (taken s.totals 3) ns rs)) G' s.totals.records × Plants (view (tables (taken s.totals 3) ns rs)) G' s.totals.records (u + 2) l.0 q.0)) _
-      (λ _. subst (λ X. Gives w (view s) X G (λ G'. Taken w X G' s.totals.records × Plants X G' s.totals.records (u + 2) l.0 q.0)) (sym (taking _ 3 _ room' (adding two _ has2 second (u + 2) 1 b q (At l) u (u + 1) (omega arith))))
+      (λ _. subst (λ X. Gives w (view s) X G (λ G'. Taken w X G' s.totals.records × Plants X G' s.totals.records (u + 2) l.0 q.0)) (sym (taking _ 3 _ room' (adding two _ has2 second (u + 2) 1 b q (Some l) u (u + 1) (omega arith))))
       (takes-three (view s) _ _ _ u (u + 1) w G H l.0 q.0 (record { leaf = refl; phase = refl; no_prev = refl }) (record { leaf = refl; phase = refl; no_prev = refl }) (record { inner = refl; phase = refl; prev = refl }) (inl (refl, refl))))
-      (λ _. subst (λ X. Gives w (view s) X G (λ G'. Taken w X G' s.totals.records × Plants X G' s.totals.records (u + 2) l.0 q.0)) (sym (taking _ 3 _ room' (adding two _ has2 second (u + 2) 1 (finite k) q (At l) (u + 1) u (omega arith))))
+      (λ _. subst (λ X. Gives w (view s) X G (λ G'. Taken w X G' s.totals.records × Plants X G' s.totals.records (u + 2) l.0 q.0)) (sym (taking _ 3 _ room' (adding two _ has2 second (u + 2) 1 (finite k) q (Some l) (u + 1) u (omega arith))))
       (takes-three (view s) _ _ _ (u + 1) u w G H l.0 q.0 (record { leaf = refl; phase = refl; no_prev = refl }) (record { leaf = refl; phase = refl; no_prev = refl }) (record { inner = refl; phase = refl; prev = refl }) (inr (refl, refl))))
     where
       u : ℕ
@@ -62,25 +61,25 @@ module _ (s : Tables) (h : TablesSound s) where
       b = rank_at s.nodes l
 
       one : List ℕ
-      one = new_node s.nodes (node s.totals.nodes) 0 (finite k) q Absent root root
+      one = new_node s.nodes (node s.totals.nodes) 0 (finite k) q None root root
 
       two : List ℕ
-      two = new_node (new_node s.nodes (node s.totals.nodes) 0 (finite k) q Absent root root) (node (s.totals.nodes + 1)) 0 (rank_at s.nodes l) q Absent root root
+      two = new_node (new_node s.nodes (node s.totals.nodes) 0 (finite k) q None root root) (node (s.totals.nodes + 1)) 0 (rank_at s.nodes l) q None root root
 
-      has1 : HasRows node_width (new_node s.nodes (node s.totals.nodes) 0 (finite k) q Absent root root) s.totals.n
-      has1 = rows-new_node s.nodes (node s.totals.nodes) 0 (finite k) q Absent root root s.totals.n h.node-rows
+      has1 : HasRows node_width (new_node s.nodes (node s.totals.nodes) 0 (finite k) q None root root) s.totals.n
+      has1 = rows-new_node s.nodes (node s.totals.nodes) 0 (finite k) q None root root s.totals.n h.node-rows
 
       has2 : HasRows node_width two s.totals.n
-      has2 = rows-new_node _ (node (s.totals.nodes + 1)) 0 (rank_at s.nodes l) q Absent root root s.totals.n has1
+      has2 = rows-new_node _ (node (s.totals.nodes + 1)) 0 (rank_at s.nodes l) q None root root s.totals.n has1
 
-      second : view (tables s.totals two s.records) ≡ w_node (w_node (view s) s.totals.nodes (record { kind = 0; rank = finite k; phase = q.0; prev = Absent }) 0 0) (s.totals.nodes + 1) (record { kind = 0; rank = rank_at s.nodes l; phase = q.0; prev = Absent }) 0 0
-      second = adding _ _ has1 (adding s.nodes (view s) h.node-rows refl s.totals.nodes 0 (finite k) q Absent 0 0 (omega arith)) (s.totals.nodes + 1) 0 (rank_at s.nodes l) q Absent 0 0 (omega arith)
+      second : view (tables s.totals two s.records) ≡ w_node (w_node (view s) s.totals.nodes (record { kind = 0; rank = finite k; phase = q.0; prev = None }) 0 0) (s.totals.nodes + 1) (record { kind = 0; rank = rank_at s.nodes l; phase = q.0; prev = None }) 0 0
+      second = adding _ _ has1 (adding s.nodes (view s) h.node-rows refl s.totals.nodes 0 (finite k) q None 0 0 (omega arith)) (s.totals.nodes + 1) 0 (rank_at s.nodes l) q None 0 0 (omega arith)
 
   -- line 185
   pub copy_moves : (w : ℕ) (G : Ghost) (H : Holds (view s) G) (sibling p : NodeNo) (q : Phase) → s.totals.nodes + 1 ≤ s.totals.n → s.totals.records + 1 ≤ s.totals.m
-      → Gives w (view s) (view (apply (effect.TakeCopy sibling p q) s)) G (λ G'. Taken w (view (apply (effect.TakeCopy sibling p q) s)) G' s.totals.records × Made (view (apply (effect.TakeCopy sibling p q) s)) G' s.totals.records s.totals.nodes × ((view (apply (effect.TakeCopy sibling p q) s)).fixed s.totals.nodes ≡ record { kind = kind_at s.nodes sibling; rank = rank_at s.nodes sibling; phase = q.0; prev = At p }))
+      → Gives w (view s) (view (apply (effect.TakeCopy sibling p q) s)) G (λ G'. Taken w (view (apply (effect.TakeCopy sibling p q) s)) G' s.totals.records × Made (view (apply (effect.TakeCopy sibling p q) s)) G' s.totals.records s.totals.nodes × ((view (apply (effect.TakeCopy sibling p q) s)).fixed s.totals.nodes ≡ record { kind = kind_at s.nodes sibling; rank = rank_at s.nodes sibling; phase = q.0; prev = Some p }))
   unfolding apply copy_of view
   copy_moves w G H sibling p q room room' =
-      subst (λ X. Gives w (view s) X G (λ G'. Taken w X G' s.totals.records × Made X G' s.totals.records s.totals.nodes × (X.fixed s.totals.nodes ≡ record { kind = kind_at s.nodes sibling; rank = rank_at s.nodes sibling; phase = q.0; prev = At p })))
-      (sym (taking _ 1 _ room' (adding s.nodes (view s) h.node-rows refl s.totals.nodes (kind_at s.nodes sibling) (rank_at s.nodes sibling) q (At p) 0 0 (omega arith))))
+      subst (λ X. Gives w (view s) X G (λ G'. Taken w X G' s.totals.records × Made X G' s.totals.records s.totals.nodes × (X.fixed s.totals.nodes ≡ record { kind = kind_at s.nodes sibling; rank = rank_at s.nodes sibling; phase = q.0; prev = Some p })))
+      (sym (taking _ 1 _ room' (adding s.nodes (view s) h.node-rows refl s.totals.nodes (kind_at s.nodes sibling) (rank_at s.nodes sibling) q (Some p) 0 0 (omega arith))))
       (takes_copy (view s) _ w G H)

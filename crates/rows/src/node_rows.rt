@@ -5,18 +5,18 @@ ghost use Rattle.sound.specs.Sound.{is_absent, root_ok, rank_ok, prev_ok, childr
 
 use crate::numbers::{phase_ok, used_node, word_ok};
 use fields::{child_at, is_internal, kind_at, phase_at, prev_at, rank_at, update_at};
-use shapes::{MaybeNode, NodeNo, Rank, Totals};
+use shapes::{NodeNo, Rank, Totals};
 use tables::{INTERNAL, ROOT};
 
 // Class 0 is a finite key, 1 is ∞1.
 const INFINITY_2: u32 = 2;
 
-fn is_absent(m: MaybeNode) -> bool
+fn is_absent(m: Option<NodeNo>) -> bool
     ensures { result ≡ is_absent m }
 {
     match m {
-        MaybeNode::Absent => true,
-        MaybeNode::At(_) => false,
+        None => true,
+        Some(_) => false,
     }
 }
 
@@ -42,12 +42,12 @@ fn rank_ok(k: Rank) -> bool
 }
 
 // Absent or a smaller number than the node's own.
-fn prev_ok(n: u32, m: MaybeNode) -> bool
+fn prev_ok(n: u32, m: Option<NodeNo>) -> bool
     ensures { result ≡ prev_ok n m }
 {
     match m {
-        MaybeNode::Absent => true,
-        MaybeNode::At(x) => x.0 < n,
+        None => true,
+        Some(x) => x.0 < n,
     }
 }
 

@@ -3,7 +3,7 @@ ghost use Rattle.std.specs.Prelude.{◌≡◌};
 ghost use Rattle.sound.specs.Sound.{used_node, used_maybe, used_record, word_ok, phase_ok, used_ok};
 
 use fields::between;
-use shapes::{MaybeNode, NodeNo, Phase, RecordNo, Totals, Update};
+use shapes::{NodeNo, Phase, RecordNo, Totals, Update};
 use tables::{FRESH_NODES, FRESH_RECORDS, LAST_PHASE, MARK};
 
 pub fn used_node(t: Totals, x: NodeNo) -> bool
@@ -12,12 +12,12 @@ pub fn used_node(t: Totals, x: NodeNo) -> bool
     x.0 < t.nodes
 }
 
-pub fn used_maybe(t: Totals, m: MaybeNode) -> bool
+pub fn used_maybe(t: Totals, m: Option<NodeNo>) -> bool
     ensures { result ≡ used_maybe t m }
 {
     match m {
-        MaybeNode::Absent => true,
-        MaybeNode::At(x) => used_node(t, x),
+        None => true,
+        Some(x) => used_node(t, x),
     }
 }
 

@@ -1,10 +1,10 @@
 -- The run's loop: what is left of it after t turns, by what the next turn comes to.
+use Rattle.std.specs.Prelude.{None, Some, Ok, Err}
+use Rattle.shapes.specs.Outcomes.{Outcome}
 use Prim.Native.Nat.{ℕ, suc, ◌+◌, ◌-◌, ◌<◌, ◌≤◌}
 use native.Mathlib.Omega.{arith}
 use mathlib.Core.Path.{◌≡◌, refl, sym, ◌∙◌}
 use mathlib.Core.Bool.{true, false, true≢false, false≢true}
-use Rattle.shapes.specs.declared.Outcome.{Outcome}
-use Rattle.shapes.specs.declared.Outcome.TheVariants.{Going, Said, Refused}
 use Rattle.tables.specs.World.{World}
 use Rattle.tables.specs.Fresh.{Left}
 use Rattle.steps.specs.Turn.{Ran, goes_on, run_by}
@@ -14,21 +14,21 @@ use Rattle.running.specs.Loop.{is_going, counted, steps_from}
 -- a turn that goes on is counted
 going-counted : (o : Outcome) (t u : ℕ) → is_going o ≡ true → counted o t u ≡ u
 unfolding is_going counted
-going-counted Going t u h = refl
-going-counted (Said a) t u h = refl
-going-counted (Refused r) t u h = absurd (false≢true h)
+going-counted (Ok None) t u h = refl
+going-counted (Ok (Some a)) t u h = refl
+going-counted (Err r) t u h = absurd (false≢true h)
 
 goes_on_lem : (o : Outcome) (s : World) (t : ℕ) (rest : Ran) → is_going o ≡ true → goes_on o s t rest ≡ rest
 unfolding goes_on is_going
-goes_on_lem Going s t rest h = refl
-goes_on_lem (Said a) s t rest h = absurd (false≢true h)
-goes_on_lem (Refused r) s t rest h = absurd (false≢true h)
+goes_on_lem (Ok None) s t rest h = refl
+goes_on_lem (Ok (Some a)) s t rest h = absurd (false≢true h)
+goes_on_lem (Err r) s t rest h = absurd (false≢true h)
 
 stops : (o : Outcome) (s : World) (t : ℕ) (rest : Ran) → is_going o ≡ false → goes_on o s t rest ≡ record { world = s; outcome = o; turns = counted o t (suc t) }
 unfolding goes_on is_going counted
-stops Going s t rest h = absurd (true≢false h)
-stops (Said a) s t rest h = refl
-stops (Refused r) s t rest h = refl
+stops (Ok None) s t rest h = absurd (true≢false h)
+stops (Ok (Some a)) s t rest h = refl
+stops (Err r) s t rest h = refl
 
 -- d is what the next turn leaves, u the count with it
 module _ (n t w : ℕ) (s : World) (d : Left) (e : d ≡ step_within s w) (l : t < n) (u : ℕ) (f : u ≡ counted d.outcome t (t + 1)) where
@@ -55,6 +55,6 @@ module _ (n t w : ℕ) (s : World) (d : Left) (e : d ≡ step_within s w) (l : t
   ends_by h = let one : t + 1 ≡ suc t = omega arith in sym (next ∙ stops _ _ _ _ h ∙ rw (f, one) refl)
 
 -- n turns were taken
-pub ends : (n t w : ℕ) (s : World) → n ≤ t → record { world = s; outcome = Going; turns = t } ≡ steps_from (n - t) t w s
+pub ends : (n t w : ℕ) (s : World) → n ≤ t → record { world = s; outcome = Ok None; turns = t } ≡ steps_from (n - t) t w s
 unfolding run_by
 ends n t w s l = let none : n - t ≡ 0 = omega arith in rw none refl

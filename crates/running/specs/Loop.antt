@@ -1,8 +1,7 @@
 -- A run's loop: its turns without the looks at the tables.
-use Rattle.std.specs.Prelude.{ℕ, List, Bool, true, false, ℤ}
+use Rattle.std.specs.Prelude.{ℕ, List, Bool, true, false, ℤ, None, Some, Ok, Err}
 use Rattle.shapes.specs.declared.Run.{Run}
-use Rattle.shapes.specs.declared.Outcome.{Outcome}
-use Rattle.shapes.specs.declared.Outcome.TheVariants.{Going, Said, Refused}
+use Rattle.shapes.specs.Outcomes.{Outcome}
 use Rattle.tables.specs.World.{World, world}
 use Rattle.steps.specs.Turn.{Ran, run_by}
 use Rattle.turning.specs.Fits.{step_within}
@@ -16,12 +15,12 @@ abbrev pub steps_from : ℕ → ℕ → ℕ → World → Ran
 steps_from = run_by step_within
 
 unfoldable pub is_going : Outcome → Bool
-is_going Going = true
-is_going (Said a) = false
-is_going (Refused r) = false
+is_going (Ok None) = true
+is_going (Ok (Some a)) = false
+is_going (Err r) = false
 
 -- the turns before, or those with this one
 unfoldable pub counted : Outcome → ℕ → ℕ → ℕ
-counted Going before taken = taken
-counted (Said a) before taken = taken
-counted (Refused r) before taken = before
+counted (Ok None) before taken = taken
+counted (Ok (Some a)) before taken = taken
+counted (Err r) before taken = before

@@ -12,9 +12,9 @@ fn is_going(outcome: Outcome) -> bool
     ensures { result ≡ is_going outcome }
 {
     match outcome {
-        Outcome::Going => true,
-        Outcome::Said(_) => false,
-        Outcome::Refused(_) => false,
+        Ok(None) => true,
+        Ok(Some(_)) => false,
+        Err(_) => false,
     }
 }
 
@@ -23,9 +23,9 @@ fn counted(outcome: Outcome, turns: u32, taken: u32) -> u32
     ensures { result ≡ counted outcome turns taken }
 {
     match outcome {
-        Outcome::Going => taken,
-        Outcome::Said(_) => taken,
-        Outcome::Refused(_) => turns,
+        Ok(None) => taken,
+        Ok(Some(_)) => taken,
+        Err(_) => turns,
     }
 }
 
@@ -59,7 +59,7 @@ pub fn steps(
     }
     Run {
         board: b,
-        outcome: Outcome::Going,
+        outcome: Ok(None),
         turns,
     }
 }

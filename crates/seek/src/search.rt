@@ -2,7 +2,7 @@
 ghost use Rattle.std.specs.Prelude.{◌≡◌};
 ghost use Rattle.steps.specs.Search.{goes_left, landed, search39};
 
-use shapes::{Decision, Key, Link, LinkStep, Locals, MaybeNode, NodeNo, Place, Totals};
+use shapes::{Decision, Key, Link, LinkStep, Locals, NodeNo, Place, Totals};
 
 // An infinite key is wider than a word, so keys are compared in 64 bits.
 pub fn goes_left(nodes: &[u32], k: Key, x: NodeNo) -> bool
@@ -31,12 +31,12 @@ pub fn search39(totals: Totals, nodes: &[u32], k: Key, v: Locals) -> Decision
 {
     let at = v.p;
     let seq = v.seq;
-    let MaybeNode::At(p) = fields::as_parent(nodes, MaybeNode::At(at)) else {
-        return Decision::Crooked;
+    let Some(p) = fields::as_parent(nodes, Some(at)) else {
+        return None;
     };
     let left = goes_left(nodes, k, p);
-    let MaybeNode::At(c) = fields::read_child(totals.nodes, nodes, p, left, seq) else {
-        return Decision::Crooked;
+    let Some(c) = fields::read_child(totals.nodes, nodes, p, left, seq) else {
+        return None;
     };
     landed(nodes, v, c)
 }

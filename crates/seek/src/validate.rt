@@ -3,54 +3,54 @@ ghost use Rattle.std.specs.Prelude.{◌≡◌};
 ghost use Rattle.steps.specs.Validate.{word52, state53, child57, link_of, link_parent, copy_child, link_child, sibling_left, parent_left, link_left};
 
 use crate::search::goes_left;
-use shapes::{Key, Link, LinkMove, LinkStep, Locals, MaybeNode, Update};
+use shapes::{Key, Link, LinkMove, LinkStep, Locals, NodeNo, Update};
 
-fn word52(nodes: &[u32], parent: MaybeNode) -> LinkMove
+fn word52(nodes: &[u32], parent: Option<NodeNo>) -> Option<LinkMove>
     ensures { result ≡ word52 nodes.now parent }
 {
-    let MaybeNode::At(x) = parent else {
-        return LinkMove::Crooked;
+    let Some(x) = parent else {
+        return None;
     };
-    LinkMove::Goes(LinkStep::State53, fields::update_at(nodes, x))
+    Some(LinkMove::Goes(LinkStep::State53, fields::update_at(nodes, x)))
 }
 
-fn state53(records: &[u32], up: Update) -> LinkMove
+fn state53(records: &[u32], up: Update) -> Option<LinkMove>
     ensures { result ≡ state53 records.now up }
 {
     let info = up.info;
     if hand::is_frozen(records, up) {
-        LinkMove::Helps(info)
+        Some(LinkMove::Helps(info))
     } else {
-        LinkMove::Goes(LinkStep::Child57, up)
+        Some(LinkMove::Goes(LinkStep::Child57, up))
     }
 }
 
-fn child57(nodes: &[u32], parent: MaybeNode, child: MaybeNode, left: bool) -> LinkMove
+fn child57(nodes: &[u32], parent: Option<NodeNo>, child: Option<NodeNo>, left: bool) -> Option<LinkMove>
     ensures { result ≡ child57 nodes.now parent child left }
 {
-    let MaybeNode::At(x) = parent else {
-        return LinkMove::Crooked;
+    let Some(x) = parent else {
+        return None;
     };
-    let MaybeNode::At(c) = child else {
-        return LinkMove::Crooked;
+    let Some(c) = child else {
+        return None;
     };
     let newest = fields::child_at(nodes, x, left);
     if fields::same_node(newest, c) {
-        LinkMove::Holds
+        Some(LinkMove::Holds)
     } else {
-        LinkMove::Fails
+        Some(LinkMove::Fails)
     }
 }
 
 pub fn link_of(
     nodes: &[u32],
     records: &[u32],
-    parent: MaybeNode,
-    child: MaybeNode,
+    parent: Option<NodeNo>,
+    child: Option<NodeNo>,
     left: bool,
     up: Update,
     step: LinkStep,
-) -> LinkMove
+) -> Option<LinkMove>
     ensures { result ≡ link_of nodes.now records.now parent child left up step }
 {
     match step {
@@ -62,31 +62,31 @@ pub fn link_of(
 
 // ---- the arguments of the five calls
 
-pub fn link_parent(v: Locals, a: Link) -> MaybeNode
+pub fn link_parent(v: Locals, a: Link) -> Option<NodeNo>
     ensures { result ≡ link_parent v a }
 {
     let gp = v.gp;
     let p = v.p;
     let sibling = v.sibling;
     match a {
-        Link::Leaf64 => MaybeNode::At(p),
+        Link::Leaf64 => Some(p),
         Link::Parent65 => gp,
-        Link::Sibling183 => MaybeNode::At(p),
-        Link::Left187 => MaybeNode::At(sibling),
-        Link::Right188 => MaybeNode::At(sibling),
+        Link::Sibling183 => Some(p),
+        Link::Left187 => Some(sibling),
+        Link::Right188 => Some(sibling),
     }
 }
 
-fn copy_child(nodes: &[u32], copy: MaybeNode, left: bool) -> MaybeNode
+fn copy_child(nodes: &[u32], copy: Option<NodeNo>, left: bool) -> Option<NodeNo>
     ensures { result ≡ copy_child nodes.now copy left }
 {
-    let MaybeNode::At(x) = copy else {
-        return MaybeNode::Absent;
+    let Some(x) = copy else {
+        return None;
     };
-    MaybeNode::At(fields::child_at(nodes, x, left))
+    Some(fields::child_at(nodes, x, left))
 }
 
-pub fn link_child(nodes: &[u32], v: Locals, a: Link) -> MaybeNode
+pub fn link_child(nodes: &[u32], v: Locals, a: Link) -> Option<NodeNo>
     ensures { result ≡ link_child nodes.now v a }
 {
     let p = v.p;
@@ -94,11 +94,11 @@ pub fn link_child(nodes: &[u32], v: Locals, a: Link) -> MaybeNode
     let sibling = v.sibling;
     let made = v.made;
     match a {
-        Link::Leaf64 => MaybeNode::At(l),
-        Link::Parent65 => MaybeNode::At(p),
-        Link::Sibling183 => MaybeNode::At(sibling),
-        Link::Left187 => copy_child(nodes, fields::as_parent(nodes, MaybeNode::At(made)), true),
-        Link::Right188 => copy_child(nodes, fields::as_parent(nodes, MaybeNode::At(made)), false),
+        Link::Leaf64 => Some(l),
+        Link::Parent65 => Some(p),
+        Link::Sibling183 => Some(sibling),
+        Link::Left187 => copy_child(nodes, fields::as_parent(nodes, Some(made)), true),
+        Link::Right188 => copy_child(nodes, fields::as_parent(nodes, Some(made)), false),
     }
 }
 
@@ -113,10 +113,10 @@ pub fn sibling_left(nodes: &[u32], v: Locals) -> bool
     parent <= leaf
 }
 
-fn parent_left(nodes: &[u32], k: Key, parent: MaybeNode) -> bool
+fn parent_left(nodes: &[u32], k: Key, parent: Option<NodeNo>) -> bool
     ensures { result ≡ parent_left nodes.now k parent }
 {
-    let MaybeNode::At(x) = parent else {
+    let Some(x) = parent else {
         return false;
     };
     goes_left(nodes, k, x)

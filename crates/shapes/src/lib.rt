@@ -29,21 +29,14 @@ pub struct Update {
     pub info: RecordNo,
 }
 
-// A node that may be absent: a grandparent, a prev.
-#[derive(Clone, Copy)]
-pub enum MaybeNode {
-    Absent,
-    At(NodeNo),
-}
-
 // ---- workers
 
-// What an operation has in hand at its place; what it has not read yet is 0 or absent.
+// What an operation has in hand at its place; what it has not read yet is 0, a grandparent None.
 // A scan has its phase, its node as p, and the record and place of HELP.
 #[derive(Clone, Copy)]
 pub struct Locals {
     pub seq: Phase,
-    pub gp: MaybeNode,
+    pub gp: Option<NodeNo>,
     pub p: NodeNo,
     pub l: NodeNo,
     pub gpup: Update,
@@ -133,16 +126,10 @@ pub enum Operation {
     Scan(Key, Key, Place),
 }
 
-#[derive(Clone, Copy)]
-pub enum Condition {
-    Idle,
-    Busy(Operation),
-}
-
-// The counts are of the worker's pending nodes and found keys, which stand in lists of their own.
+// Idle where it holds no operation. The counts are of the worker's pending nodes and found keys, which stand in lists of their own.
 #[derive(Clone, Copy)]
 pub struct Worker {
-    pub condition: Condition,
+    pub operation: Option<Operation>,
     pub hand: Locals,
     pub pending: u32,
     pub found: u32,
@@ -190,13 +177,8 @@ pub enum Refusal {
     Crooked,
 }
 
-// What a start or a turn comes to.
-#[derive(Clone, Copy)]
-pub enum Outcome {
-    Going,
-    Said(Answer),
-    Refused(Refusal),
-}
+// What a start or a turn comes to: a refusal, an answer, or none yet.
+pub type Outcome = Result<Option<Answer>, Refusal>;
 
 // What a call answers: the board as it leaves it, and what it came to.
 #[derive(Clone, Copy)]
@@ -267,46 +249,36 @@ pub enum PendingChange {
 }
 
 #[derive(Clone, Copy)]
-pub enum FoundChange {
-    Keep,
-    Add(Key),
-}
-
-#[derive(Clone, Copy)]
 pub enum Next {
     At(Place),
     Answers(Answer),
 }
 
+// A key found is added to the worker's list.
 #[derive(Clone, Copy)]
 pub struct Step {
     pub effect: Effect,
     pub hand: Locals,
     pub pending: PendingChange,
-    pub found: FoundChange,
+    pub found: Option<Key>,
     pub next: Next,
 }
 
-#[derive(Clone, Copy)]
-pub enum Decision {
-    Crooked,
-    Go(Step),
-}
+// None where the tables are crooked: the turn cannot be taken.
+pub type Decision = Option<Step>;
 
-// What a turn inside VALIDATELINK comes to.
+// What a turn inside VALIDATELINK comes to, where it is not crooked.
 #[derive(Clone, Copy)]
 pub enum LinkMove {
-    Crooked,
     Goes(LinkStep, Update),
     Helps(RecordNo),
     Fails,
     Holds,
 }
 
-// What a turn inside HELP comes to: its effect, the place in the list and the next step, or what HELP returns.
+// What a turn inside HELP comes to, where it is not crooked: its effect, the place in the list and the next step, or what HELP returns.
 #[derive(Clone, Copy)]
 pub enum HelpMove {
-    Crooked,
     Goes(Effect, u32, HelpStep),
     Done(bool),
 }

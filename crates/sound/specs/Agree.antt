@@ -1,5 +1,5 @@
 -- Test and meaning of 'sound' agree, clause by clause.
-use Rattle.std.specs.Prelude.{ℕ, zero, suc, ◌*◌, ◌-◌, ◌≤◌, ◌<◌, ◌≡◌, refl, ◌⊎◌, List, Bool, true, false, length, get_or}
+use Rattle.std.specs.Prelude.{ℕ, zero, suc, ◌*◌, ◌-◌, ◌≤◌, ◌<◌, ◌≡◌, refl, ◌⊎◌, List, Bool, true, false, length, get_or, Option, None, Some}
 use Rattle.std.proofs.Common.{sym, ap, subst, inl, inr, arith}
 use Rattle.std.proofs.lemmas.Bool.{false≢true}
 use Rattle.laws.specs.Choice.{pick}
@@ -13,13 +13,10 @@ use Rattle.shapes.specs.declared.Entry.{Entry}
 use Rattle.shapes.specs.declared.Filling.{Filling}
 use Rattle.shapes.specs.declared.Totals.{Totals}
 use Rattle.shapes.specs.declared.Locals.{Locals}
-use Rattle.shapes.specs.declared.MaybeNode.{MaybeNode}
-use Rattle.shapes.specs.declared.MaybeNode.TheVariants.{Absent, At}
 use Rattle.shapes.specs.declared.Place.{Place}
 use Rattle.shapes.specs.declared.Place.TheVariants as place
 use Rattle.shapes.specs.declared.Operation.TheVariants.{Insert, Delete, Find, Scan}
-use Rattle.shapes.specs.declared.Condition.{Condition}
-use Rattle.shapes.specs.declared.Condition.TheVariants.{Idle, Busy}
+use Rattle.shapes.specs.declared.Operation.{Operation}
 use Rattle.tables.specs.Names.{node, record_no, root, dummy}
 use Rattle.tables.specs.Rows.{HasRows}
 use Rattle.tables.specs.Nodes.{node_width, is_internal, child_at, update_at}
@@ -42,10 +39,10 @@ pub says-used_node : (t : Totals) (x : NodeNo) → Says (used_node t x) (x.0 < t
 unfolding used_node
 says-used_node t x = says_lt _ _
 
-pub says-used_maybe : (t : Totals) (m : MaybeNode) → Says (used_maybe t m) (MaybeSound t m)
+pub says-used_maybe : (t : Totals) (m : Option NodeNo) → Says (used_maybe t m) (MaybeSound t m)
 unfolding used_maybe
-says-used_maybe t Absent = says_yes
-says-used_maybe t (At x) = says-used_node t x
+says-used_maybe t None = says_yes
+says-used_maybe t (Some x) = says-used_node t x
 
 pub says-word : (t : Totals) (u : Update) → Says (word_ok t u) (WordSound t u)
 unfolding word_ok used_record
@@ -69,10 +66,10 @@ says_used t = says_as (says_more _ (says-between _ _ _) (says_more _ (says-betwe
 
 -- ---- nodes
 
-says_absent : (m : MaybeNode) → Says (is_absent m) (m ≡ Absent)
+says_absent : (m : Option NodeNo) → Says (is_absent m) (m ≡ None)
 unfolding is_absent
-says_absent Absent = record { out = λ e. refl; back = λ e. refl }
-says_absent (At x) = record { out = λ e. absurd (false≢true e); back = λ e. let z : ◌≡◌ {A = ℕ} 0 1 = cc in absurd (omega arith) }
+says_absent None = record { out = λ e. refl; back = λ e. refl }
+says_absent (Some x) = record { out = λ e. absurd (false≢true e); back = λ e. let z : ◌≡◌ {A = ℕ} 0 1 = cc in absurd (omega arith) }
 
 pub says-root : (ns : List ℕ) → Says (root_ok ns) (RootSound (fixed_at ns root))
 unfolding root_ok fixed_at
@@ -84,10 +81,10 @@ says_rank : (k : Rank) → Says (rank_ok k) (RankSound k)
 unfolding rank_ok
 says_rank k = says_as (says_and (says_le _ _) (says_or (says_eq _ _) (says_eq _ _))) (λ h. record { class = h.0; word = h.1 }) (λ r. (r.class, r.word))
 
-says_prev : (n : ℕ) (m : MaybeNode) → Says (prev_ok n m) (PrevSound n m)
+says_prev : (n : ℕ) (m : Option NodeNo) → Says (prev_ok n m) (PrevSound n m)
 unfolding prev_ok
-says_prev n Absent = says_yes
-says_prev n (At x) = says_lt _ _
+says_prev n None = says_yes
+says_prev n (Some x) = says_lt _ _
 
 pub says-node : (t : Totals) (ns : List ℕ) (n : ℕ) → Says (node_ok t ns n) (NodeSound t n (fixed_at ns (node n)) (child_at ns (node n) true) (child_at ns (node n) false) (update_at ns (node n)))
 unfolding node_ok fixed_at children_ok is_internal
@@ -198,13 +195,13 @@ says-within rs k v n place.State140 = says_yes
 says-within rs k v n place.Child141 = says_yes
 says-within rs k v n place.Left144 = says_lt _ _
 
-says_condition : (rs : List ℕ) (v : Locals) (n : ℕ) (c : Condition) → Says (condition_ok rs v n c) (ConditionSound rs v n c)
+says_condition : (rs : List ℕ) (v : Locals) (n : ℕ) (c : Option Operation) → Says (condition_ok rs v n c) (ConditionSound rs v n c)
 unfolding condition_ok
-says_condition rs v n Idle = says_yes
-says_condition rs v n (Busy (Insert k q)) = says_and (says_itself _) (says-within rs _ v n q)
-says_condition rs v n (Busy (Delete k q)) = says_and (says_itself _) (says-within rs _ v n q)
-says_condition rs v n (Busy (Find k q)) = says_and (says_itself _) (says-within rs _ v n q)
-says_condition rs v n (Busy (Scan a b q)) = says_and (says_itself _) (says-within rs _ v n q)
+says_condition rs v n None = says_yes
+says_condition rs v n (Some (Insert k q)) = says_and (says_itself _) (says-within rs _ v n q)
+says_condition rs v n (Some (Delete k q)) = says_and (says_itself _) (says-within rs _ v n q)
+says_condition rs v n (Some (Find k q)) = says_and (says_itself _) (says-within rs _ v n q)
+says_condition rs v n (Some (Scan a b q)) = says_and (says_itself _) (says-within rs _ v n q)
 
 pub says_worker : (s : World) (w : ℕ) → Says (worker_ok s w) (WorkerSound (totals_of s) s.records (pending_at s w) (worker_at s w))
 unfolding worker_ok lists_ok

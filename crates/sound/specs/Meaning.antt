@@ -1,5 +1,5 @@
 -- What each clause of 'sound' means, as a proposition over the values that it speaks of.
-use Rattle.std.specs.Prelude.{ℕ, zero, suc, ◌*◌, ◌≤◌, ◌<◌, ◌≡◌, ◌⊎◌, List, true, false, length}
+use Rattle.std.specs.Prelude.{ℕ, zero, suc, ◌*◌, ◌≤◌, ◌<◌, ◌≡◌, ◌⊎◌, List, true, false, length, Option, None, Some}
 use Rattle.shapes.specs.Numbers.{least_n, most_n, least_m, most_m, least_p, most_p, last_phase}
 use Rattle.shapes.specs.declared.NodeNo.{NodeNo}
 use Rattle.shapes.specs.declared.Rank.{Rank}
@@ -9,15 +9,11 @@ use Rattle.shapes.specs.declared.Filling.{Filling}
 use Rattle.shapes.specs.declared.Totals.{Totals}
 use Rattle.shapes.specs.declared.Locals.{Locals}
 use Rattle.shapes.specs.declared.Worker.{Worker}
-use Rattle.shapes.specs.declared.MaybeNode.{MaybeNode}
-use Rattle.shapes.specs.declared.MaybeNode.TheVariants.{Absent, At}
 use Rattle.shapes.specs.declared.Kind.TheVariants as kind
 use Rattle.shapes.specs.declared.Place.{Place}
 use Rattle.shapes.specs.declared.Place.TheVariants as place
 use Rattle.shapes.specs.declared.Operation.{Operation}
 use Rattle.shapes.specs.declared.Operation.TheVariants.{Insert, Delete, Find, Scan}
-use Rattle.shapes.specs.declared.Condition.{Condition}
-use Rattle.shapes.specs.declared.Condition.TheVariants.{Idle, Busy}
 use Rattle.tables.specs.Names.{node, record_no, root, dummy}
 use Rattle.tables.specs.Rows.{HasRows}
 use Rattle.tables.specs.Nodes.{node_width, is_internal, child_at, update_at}
@@ -33,9 +29,9 @@ pub record WordSound (t : Totals) (u : Update) : Type 0 where
   pub type : u.mark ≤ 1
   pub info : u.info.0 < t.records
 
-abbrev pub MaybeSound : Totals → MaybeNode → Type 0
-MaybeSound t Absent = Unit {0}
-MaybeSound t (At x) = x.0 < t.nodes
+abbrev pub MaybeSound : Totals → Option NodeNo → Type 0
+MaybeSound t None = Unit {0}
+MaybeSound t (Some x) = x.0 < t.nodes
 
 pub record SizesSound (n m p : ℕ) : Type 0 where
   pub n_at_least : least_n ≤ n
@@ -58,9 +54,9 @@ pub record RankSound (k : Rank) : Type 0 where
   pub class : k.class ≤ 2
   pub word : (k.class ≡ 0) ⊎ (k.word ≡ 0)
 
-abbrev pub PrevSound : ℕ → MaybeNode → Type 0
-PrevSound n Absent = Unit {0}
-PrevSound n (At x) = x.0 < n
+abbrev pub PrevSound : ℕ → Option NodeNo → Type 0
+PrevSound n None = Unit {0}
+PrevSound n (Some x) = x.0 < n
 
 -- a node by its number, its fixed fields, its children and its update word
 pub record NodeSound (t : Totals) (n : ℕ) (f : Fixed) (left right : NodeNo) (u : Update) : Type 0 where
@@ -78,7 +74,7 @@ pub record RootSound (f : Fixed) : Type 0 where
   pub class : f.rank.class ≡ 2
   pub word : f.rank.word ≡ 0
   pub phase : f.phase ≡ 0
-  pub prev : f.prev ≡ Absent
+  pub prev : f.prev ≡ None
 
 -- ---- records
 
@@ -155,9 +151,9 @@ PlaceSound rs v n (Delete k q) = (attempt_home kind.Delete q ≡ true) × Within
 PlaceSound rs v n (Find k q) = (attempt_home kind.Find q ≡ true) × Within rs (listed kind.Find) v n q
 PlaceSound rs v n (Scan a b q) = (scan_home q ≡ true) × Within rs 0 v n q
 
-abbrev pub ConditionSound : List ℕ → Locals → ℕ → Condition → Type 0
-ConditionSound rs v n Idle = Unit {0}
-ConditionSound rs v n (Busy o) = PlaceSound rs v n o
+abbrev pub ConditionSound : List ℕ → Locals → ℕ → Option Operation → Type 0
+ConditionSound rs v n None = Unit {0}
+ConditionSound rs v n (Some o) = PlaceSound rs v n o
 
 -- a worker, with its pending nodes as a function of their place
 pub record WorkerSound (t : Totals) (rs : List ℕ) (pending : ℕ → NodeNo) (k : Worker) : Type 0 where
@@ -165,7 +161,7 @@ pub record WorkerSound (t : Totals) (rs : List ℕ) (pending : ℕ → NodeNo) (
   pub most_found : k.found ≤ t.n
   pub pending_used : (i : ℕ) → i < k.pending → (pending i).0 < t.nodes
   pub hand : HandSound t k.hand
-  pub place : ConditionSound rs k.hand k.pending k.condition
+  pub place : ConditionSound rs k.hand k.pending k.operation
 
 -- ---- the whole
 

@@ -1,5 +1,5 @@
 -- 01, 'Sound means': one test for each clause, and the whole.
-use Rattle.std.specs.Prelude.{ℕ, suc, ◌-◌, List, [], ◌∷◌, Bool, true, false, ◌&&◌, ◌||◌, get_or, leb, eqb, ltb}
+use Rattle.std.specs.Prelude.{ℕ, suc, ◌-◌, List, [], ◌∷◌, Bool, true, false, ◌&&◌, ◌||◌, get_or, leb, eqb, ltb, Option, None, Some}
 use Rattle.laws.specs.Choice.{pick}
 use Rattle.laws.specs.Tests.{all, every}
 use Rattle.shapes.specs.Numbers.{last_phase}
@@ -11,14 +11,11 @@ use Rattle.shapes.specs.declared.Update.{Update}
 use Rattle.shapes.specs.declared.Entry.{Entry}
 use Rattle.shapes.specs.declared.Totals.{Totals}
 use Rattle.shapes.specs.declared.Locals.{Locals}
-use Rattle.shapes.specs.declared.MaybeNode.{MaybeNode}
-use Rattle.shapes.specs.declared.MaybeNode.TheVariants.{Absent, At}
 use Rattle.shapes.specs.declared.Kind.TheVariants as kind
 use Rattle.shapes.specs.declared.Place.{Place}
 use Rattle.shapes.specs.declared.Place.TheVariants as place
 use Rattle.shapes.specs.declared.Operation.TheVariants.{Insert, Delete, Find, Scan}
-use Rattle.shapes.specs.declared.Condition.{Condition}
-use Rattle.shapes.specs.declared.Condition.TheVariants.{Idle, Busy}
+use Rattle.shapes.specs.declared.Operation.{Operation}
 use Rattle.tables.specs.Names.{node, record_no, root, dummy}
 use Rattle.tables.specs.Nodes.{kind_at, is_internal, rank_at, phase_at, prev_at, child_at, update_at}
 use Rattle.tables.specs.Records.{record_width, record_word, record_row, aborted, unfilled, count_at, state_at, par_at, old_child_at, new_child_at, seq_at, entry_at}
@@ -31,9 +28,9 @@ use Rattle.sound.specs.Homes.{listed, attempt_home, scan_home, in_list}
 unfoldable pub used_node : Totals → NodeNo → Bool
 used_node t x = ltb x.0 t.nodes
 
-unfoldable pub used_maybe : Totals → MaybeNode → Bool
-used_maybe t Absent = true
-used_maybe t (At x) = used_node t x
+unfoldable pub used_maybe : Totals → Option NodeNo → Bool
+used_maybe t None = true
+used_maybe t (Some x) = used_node t x
 
 unfoldable pub used_record : Totals → RecordNo → Bool
 used_record t r = ltb r.0 t.records
@@ -50,9 +47,9 @@ used_ok t = all (between 3 t.nodes t.n ∷ between 1 t.records t.m ∷ leb t.cou
 
 -- ---- Root and dummy as fresh but for Root's children and update word
 
-unfoldable pub is_absent : MaybeNode → Bool
-is_absent Absent = true
-is_absent (At x) = false
+unfoldable pub is_absent : Option NodeNo → Bool
+is_absent None = true
+is_absent (Some x) = false
 
 unfoldable pub root_ok : List ℕ → Bool
 root_ok ns = all (eqb (kind_at ns root) 1 ∷ eqb (rank_at ns root).class 2 ∷ eqb (rank_at ns root).word 0 ∷ eqb (phase_at ns root).0 0 ∷ is_absent (prev_at ns root) ∷ [])
@@ -67,9 +64,9 @@ unfoldable pub rank_ok : Rank → Bool
 rank_ok k = leb k.class 2 && (eqb k.class 0 || eqb k.word 0)
 
 -- absent or a smaller number than the node's own
-unfoldable pub prev_ok : ℕ → MaybeNode → Bool
-prev_ok n Absent = true
-prev_ok n (At x) = ltb x.0 n
+unfoldable pub prev_ok : ℕ → Option NodeNo → Bool
+prev_ok n None = true
+prev_ok n (Some x) = ltb x.0 n
 
 -- every internal node has two children among the used nodes and no leaf has any
 unfoldable pub children_ok : Totals → List ℕ → NodeNo → Bool
@@ -130,12 +127,12 @@ within_ok rs k v n place.Child141 = true
 within_ok rs k v n place.Left144 = ltb 0 n
 
 -- the place is one of the operation's
-unfoldable pub condition_ok : List ℕ → Locals → ℕ → Condition → Bool
-condition_ok rs v n Idle = true
-condition_ok rs v n (Busy (Insert k q)) = attempt_home kind.Insert q && within_ok rs (listed kind.Insert) v n q
-condition_ok rs v n (Busy (Delete k q)) = attempt_home kind.Delete q && within_ok rs (listed kind.Delete) v n q
-condition_ok rs v n (Busy (Find k q)) = attempt_home kind.Find q && within_ok rs (listed kind.Find) v n q
-condition_ok rs v n (Busy (Scan a b q)) = scan_home q && within_ok rs 0 v n q
+unfoldable pub condition_ok : List ℕ → Locals → ℕ → Option Operation → Bool
+condition_ok rs v n None = true
+condition_ok rs v n (Some (Insert k q)) = attempt_home kind.Insert q && within_ok rs (listed kind.Insert) v n q
+condition_ok rs v n (Some (Delete k q)) = attempt_home kind.Delete q && within_ok rs (listed kind.Delete) v n q
+condition_ok rs v n (Some (Find k q)) = attempt_home kind.Find q && within_ok rs (listed kind.Find) v n q
+condition_ok rs v n (Some (Scan a b q)) = scan_home q && within_ok rs 0 v n q
 
 -- pending and found counts are at most N, and pending nodes are used
 unfoldable pub lists_ok : World → ℕ → Bool
@@ -146,7 +143,7 @@ lists_ok s w =
 unfoldable pub worker_ok : World → ℕ → Bool
 worker_ok s w =
     let k = worker_at s w in
-    all (lists_ok s w ∷ hand_ok (totals_of s) k.hand ∷ condition_ok s.records k.hand k.pending k.condition ∷ [])
+    all (lists_ok s w ∷ hand_ok (totals_of s) k.hand ∷ condition_ok s.records k.hand k.pending k.operation ∷ [])
 
 -- ---- the whole
 

@@ -1,12 +1,11 @@
 -- What an effect does to the tables: at most one changeable word, or a creation.
-use Rattle.std.specs.Prelude.{ℕ, ◌+◌, List, ltb}
+use Rattle.std.specs.Prelude.{ℕ, ◌+◌, List, ltb, None, Some}
 use Rattle.laws.specs.Choice.{pick}
 use Rattle.shapes.specs.declared.NodeNo.{NodeNo}
 use Rattle.shapes.specs.declared.Phase.{Phase}
 use Rattle.shapes.specs.declared.Key.{Key}
 use Rattle.shapes.specs.declared.Rank.{Rank}
 use Rattle.shapes.specs.declared.Totals.{Totals}
-use Rattle.shapes.specs.declared.MaybeNode.TheVariants.{Absent, At}
 use Rattle.shapes.specs.declared.Effect.{Effect}
 use Rattle.shapes.specs.declared.Effect.TheVariants as effect
 use Rattle.tables.specs.Names.{node, record_no, root, finite, value}
@@ -25,18 +24,18 @@ taken t k = record { n = t.n; m = t.m; p = t.p; nodes = t.nodes + k; records = t
 unfoldable pub top_of : List ℕ → NodeNo → NodeNo → NodeNo → Key → Rank → Phase → NodeNo → List ℕ
 top_of ns new sibling x k b q l =
     pick (ltb k.0 (value b))
-    (new_node ns x 1 b q (At l) new sibling)
-    (new_node ns x 1 (finite k) q (At l) sibling new)
+    (new_node ns x 1 b q (Some l) new sibling)
+    (new_node ns x 1 (finite k) q (Some l) sibling new)
 
 -- lines 161 to 163: a leaf of key k, a leaf of l's key, and above them the internal node whose prev is l
 unfoldable pub three_nodes : List ℕ → ℕ → Key → NodeNo → Phase → List ℕ
 three_nodes ns u k l q =
     let b = rank_at ns l in
-    top_of (new_node (new_node ns (node u) 0 (finite k) q Absent root root) (node (u + 1)) 0 b q Absent root root) (node u) (node (u + 1)) (node (u + 2)) k b q l
+    top_of (new_node (new_node ns (node u) 0 (finite k) q None root root) (node (u + 1)) 0 b q None root root) (node u) (node (u + 1)) (node (u + 2)) k b q l
 
 -- line 185: the sibling's kind and key, prev p; until they are read its children stand as 0
 unfoldable pub copy_of : List ℕ → ℕ → NodeNo → NodeNo → Phase → List ℕ
-copy_of ns u sibling p q = new_node ns (node u) (kind_at ns sibling) (rank_at ns sibling) q (At p) root root
+copy_of ns u sibling p q = new_node ns (node u) (kind_at ns sibling) (rank_at ns sibling) q (Some p) root root
 
 unfoldable pub taken_record : List ℕ → ℕ → List ℕ
 taken_record rs u = new_record rs (record_no u) aborted unfilled

@@ -1,11 +1,9 @@
 -- What an attempt does between its search and EXECUTE: VALIDATELEAF (lines 60 to 68) and the bodies of FIND, INSERT and DELETE.
-use Rattle.std.specs.Prelude.{ℕ, ◌+◌, List, Bool, ◌&&◌, eqb, leb}
+use Rattle.std.specs.Prelude.{ℕ, ◌+◌, List, Bool, ◌&&◌, eqb, leb, Option, None, Some}
 use Rattle.laws.specs.Choice.{pick}
 use Rattle.shapes.specs.declared.Key.{Key}
 use Rattle.shapes.specs.declared.Totals.{Totals}
 use Rattle.shapes.specs.declared.Locals.{Locals}
-use Rattle.shapes.specs.declared.MaybeNode.{MaybeNode}
-use Rattle.shapes.specs.declared.MaybeNode.TheVariants.{Absent, At}
 use Rattle.shapes.specs.declared.Kind.{Kind}
 use Rattle.shapes.specs.declared.Kind.TheVariants as kind
 use Rattle.shapes.specs.declared.Link.{Link}
@@ -17,8 +15,8 @@ use Rattle.shapes.specs.declared.LinkMove.TheVariants as link
 use Rattle.shapes.specs.declared.Place.TheVariants as place
 use Rattle.shapes.specs.declared.Effect.TheVariants as effect
 use Rattle.shapes.specs.declared.Answer.TheVariants.{Yes, No, NoRoom}
-use Rattle.shapes.specs.declared.Decision.{Decision}
-use Rattle.shapes.specs.declared.Decision.TheVariants as decision
+use Rattle.shapes.specs.Outcomes.{Decision}
+use Rattle.shapes.specs.declared.NodeNo.{NodeNo}
 use Rattle.tables.specs.Names.{node, record_no, root, same_node, same_update}
 use Rattle.tables.specs.Nodes.{is_internal, key_at, child_at, update_at}
 use Rattle.tables.specs.Versions.{read_child, as_parent}
@@ -49,9 +47,9 @@ take_copy t ns v =
 -- ---- when the leaf is validated: lines 78 and 79, 159, 181
 
 -- line 182 is reached: with gp absent, or p the Root so that gp has no word (line 62), it is crooked
-unfoldable pub reaches182 : Locals → MaybeNode → Decision
-reaches182 v Absent = decision.Crooked
-reaches182 v (At gp) = pick (same_node v.p root) decision.Crooked (goes v place.Sibling182)
+unfoldable pub reaches182 : Locals → Option NodeNo → Decision
+reaches182 v None = None
+reaches182 v (Some gp) = pick (same_node v.p root) None (goes v place.Sibling182)
 
 -- the answer, or on to line 161 or 182
 unfoldable pub validated : Totals → List ℕ → Kind → Key → Locals → Decision
@@ -62,7 +60,7 @@ validated t ns kind.Delete k v = pick (eqb (key_at ns v.l) k.0) (reaches182 v v.
 -- line 66: p's word, then gp's if that agreed and p is not the Root
 unfoldable pub word66 : Totals → List ℕ → Kind → Key → Locals → Decision
 word66 t ns o k v =
-    through (as_parent ns (At v.p)) (λ p.
+    through (as_parent ns (Some v.p)) (λ p.
     pick (same_update (update_at ns p) v.pup)
     (pick (same_node p root) (validated t ns o k v) (goes v place.Grand66))
     retries)
@@ -78,15 +76,15 @@ grand66 t ns o k v =
 -- line 182
 unfoldable pub sibling182 : Totals → List ℕ → Locals → Decision
 sibling182 t ns v =
-    through (as_parent ns (At v.p)) (λ p.
+    through (as_parent ns (Some v.p)) (λ p.
     through (read_child t.nodes ns p (sibling_left ns v) v.seq) (λ c.
     goes (with_sibling v c) (place.Link Sibling183 Word52)))
 
 -- a child word of an internal sibling into the copy, without a walk: left first, then right
 unfoldable pub copy_word : List ℕ → Locals → Bool → Decision
 copy_word ns v left =
-    through (as_parent ns (At v.sibling)) (λ s.
-    through (as_parent ns (At v.made)) (λ copy.
+    through (as_parent ns (Some v.sibling)) (λ s.
+    through (as_parent ns (Some v.made)) (λ copy.
     does (effect.CopyChild copy left (child_at ns s left)) v (pick left place.CopyRight (place.Link Left187 Word52))))
 
 -- line 189: the update word of a leaf sibling
@@ -108,12 +106,12 @@ held t ns v Left187 = goes (with_sup v v.up) (place.Link Right188 Word52)
 held t ns v Right188 = goes v place.Leaf190
 
 -- what a turn inside VALIDATELINK leads to; line 54 helps, and the attempt is made anew
-unfoldable pub link_next : Totals → List ℕ → Locals → Link → LinkMove → Decision
-link_next t ns v a link.Crooked = decision.Crooked
-link_next t ns v a (link.Goes s u) = goes (with_up v u) (place.Link a s)
-link_next t ns v a (link.Helps r) = helps r
-link_next t ns v a link.Fails = retries
-link_next t ns v a link.Holds = held t ns v a
+unfoldable pub link_next : Totals → List ℕ → Locals → Link → Option LinkMove → Decision
+link_next t ns v a None = None
+link_next t ns v a (Some (link.Goes s u)) = goes (with_up v u) (place.Link a s)
+link_next t ns v a (Some (link.Helps r)) = helps r
+link_next t ns v a (Some link.Fails) = retries
+link_next t ns v a (Some link.Holds) = held t ns v a
 
 -- a turn inside the call of VALIDATELINK at line a
 unfoldable pub link_step : Tables → Key → Locals → Link → LinkStep → Decision

@@ -1,5 +1,5 @@
 -- What a turn decides, by its place.
-use Rattle.std.specs.Prelude.{true, false}
+use Rattle.std.specs.Prelude.{true, false, None}
 use Rattle.shapes.specs.declared.Key.{Key}
 use Rattle.shapes.specs.declared.Locals.{Locals}
 use Rattle.shapes.specs.declared.Kind.{Kind}
@@ -8,8 +8,7 @@ use Rattle.shapes.specs.declared.Place.{Place}
 use Rattle.shapes.specs.declared.Place.TheVariants as place
 use Rattle.shapes.specs.declared.Operation.{Operation}
 use Rattle.shapes.specs.declared.Operation.TheVariants.{Insert, Delete, Find, Scan}
-use Rattle.shapes.specs.declared.Decision.{Decision}
-use Rattle.shapes.specs.declared.Decision.TheVariants as decision
+use Rattle.shapes.specs.Outcomes.{Decision}
 use Rattle.tables.specs.Names.{phase}
 use Rattle.tables.specs.World.{Tables}
 use Rattle.steps.specs.Hand.{at_root, goes}
@@ -36,29 +35,29 @@ attempt s o k v place.Frozen97 = frozen97 s.nodes s.records o v
 attempt s o k v place.State98 = state98 s.records o v
 attempt s o k v place.Freeze103 = freeze103 s.nodes s.records v
 attempt s o k v (place.Help b c) = help_next c v (help_of s v.info v.i b)
-attempt s o k v place.Counter130 = decision.Crooked
-attempt s o k v place.Bump131 = decision.Crooked
-attempt s o k v place.Word139 = decision.Crooked
-attempt s o k v place.State140 = decision.Crooked
-attempt s o k v place.Child141 = decision.Crooked
-attempt s o k v place.Left144 = decision.Crooked
+attempt s o k v place.Counter130 = None
+attempt s o k v place.Bump131 = None
+attempt s o k v place.Word139 = None
+attempt s o k v place.State140 = None
+attempt s o k v place.Child141 = None
+attempt s o k v place.Left144 = None
 
 -- a scan; sound tables have none at an attempt's place
 unfoldable pub scan : Tables → Lists → Key → Key → Locals → Place → Decision
-scan s ls a b v place.Counter74 = decision.Crooked
-scan s ls a b v place.Search39 = decision.Crooked
-scan s ls a b v (place.Link c d) = decision.Crooked
-scan s ls a b v place.Word66 = decision.Crooked
-scan s ls a b v place.Grand66 = decision.Crooked
-scan s ls a b v place.Leaf164 = decision.Crooked
-scan s ls a b v place.Sibling182 = decision.Crooked
-scan s ls a b v place.CopyLeft = decision.Crooked
-scan s ls a b v place.CopyRight = decision.Crooked
-scan s ls a b v place.Word189 = decision.Crooked
-scan s ls a b v place.Leaf190 = decision.Crooked
-scan s ls a b v place.Frozen97 = decision.Crooked
-scan s ls a b v place.State98 = decision.Crooked
-scan s ls a b v place.Freeze103 = decision.Crooked
+scan s ls a b v place.Counter74 = None
+scan s ls a b v place.Search39 = None
+scan s ls a b v (place.Link c d) = None
+scan s ls a b v place.Word66 = None
+scan s ls a b v place.Grand66 = None
+scan s ls a b v place.Leaf164 = None
+scan s ls a b v place.Sibling182 = None
+scan s ls a b v place.CopyLeft = None
+scan s ls a b v place.CopyRight = None
+scan s ls a b v place.Word189 = None
+scan s ls a b v place.Leaf190 = None
+scan s ls a b v place.Frozen97 = None
+scan s ls a b v place.State98 = None
+scan s ls a b v place.Freeze103 = None
 scan s ls a b v (place.Help c d) = help_next d v (help_of s v.info v.i c)
 scan s ls a b v place.Counter130 = goes (at_root (phase s.totals.counter)) place.Bump131
 scan s ls a b v place.Bump131 = bump131 s.totals v

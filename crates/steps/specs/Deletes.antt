@@ -1,6 +1,5 @@
 -- A delete turn by turn, with an internal sibling and with a leaf one: what P5 leaves open.
-use Rattle.std.specs.Prelude.{ℕ, ◌*◌, ◌≡◌, refl, List, [], ◌∷◌, ◌++◌, true, ◌&&◌, take, drop, pos}
-use Rattle.shapes.specs.declared.Outcome.TheVariants.{Said}
+use Rattle.std.specs.Prelude.{ℕ, ◌*◌, ◌≡◌, refl, List, [], ◌∷◌, ◌++◌, true, ◌&&◌, take, drop, pos, Some, Ok}
 use Rattle.shapes.specs.declared.Answer.TheVariants.{Yes, NoRoom}
 use Rattle.shapes.specs.declared.Link.{Link}
 use Rattle.shapes.specs.declared.Link.TheVariants.{Leaf64, Parent65, Sibling183, Left187, Right188}
@@ -49,19 +48,19 @@ pub record Deletes : Type 0 where
       (place.Help Counter111 Own ∷ place.Help Try113 Own ∷ place.Help State114 Own ∷ []) ++ freezes ++ freezes ++ freezes ++
       (place.Help Child123 Own ∷ place.Help Commit124 Own ∷ place.Help State127 Own ∷ [])
   -- at depth D, D + 39 turns; one node and one record more
-  pub depth3 : ends 0 0 (delete 0 (pos 3) three) ≡ shown (Said Yes) 42 13 5 0
-  pub depth4 : ends 0 0 (delete 0 (pos 5) four) ≡ shown (Said Yes) 43 16 6 0
+  pub depth3 : ends 0 0 (delete 0 (pos 3) three) ≡ shown (Ok (Some Yes)) 42 13 5 0
+  pub depth4 : ends 0 0 (delete 0 (pos 5) four) ≡ shown (Ok (Some Yes)) 43 16 6 0
   -- line 185: node 12 is internal as node 11 is, with its key 7, phase 0 and prev 8, which is p; 'until read, that child of the copy stands as 0'
   pub copy_taken : row 12 (took 16 0 (delete 0 (pos 3) three)) ≡ 1 ∷ 0 ∷ 2147483655 ∷ 0 ∷ 1 ∷ 8 ∷ 0 ∷ 0 ∷ 0 ∷ 0 ∷ []
   pub copy_left : row 12 (took 17 0 (delete 0 (pos 3) three)) ≡ 1 ∷ 0 ∷ 2147483655 ∷ 0 ∷ 1 ∷ 8 ∷ 10 ∷ 0 ∷ 0 ∷ 0 ∷ []
   pub copy_right : row 12 (took 18 0 (delete 0 (pos 3) three)) ≡ 1 ∷ 0 ∷ 2147483655 ∷ 0 ∷ 1 ∷ 8 ∷ 10 ∷ 9 ∷ 0 ∷ 0 ∷ []
   -- 'a leaf sibling's copy needs no turn': its word is read (line 189), so D + 32; P5 has depth 2
-  pub leaf_sibling : ends 0 0 (delete 0 (pos 3) (two 16 8)) ≡ shown (Said Yes) 35 10 4 0
+  pub leaf_sibling : ends 0 0 (delete 0 (pos 3) (two 16 8)) ≡ shown (Ok (Some Yes)) 35 10 4 0
   pub leaf_places : places_of 6 0 (took 13 0 (delete 0 (pos 3) (two 16 8))) ≡ link Sibling183 ++ (place.Word189 ∷ place.Leaf190 ∷ place.Frozen97 ∷ [])
   -- 'no room, when the taking finds fewer nodes than needed or no record left, and only then, with nothing taken': line 185, in turn D + 13
-  pub no_node : ends 0 0 (delete 0 (pos 3) (two 9 8)) ≡ shown (Said NoRoom) 16 9 3 0
-  pub no_record : ends 0 0 (delete 0 (pos 3) (two 16 3)) ≡ shown (Said NoRoom) 16 9 3 0
-  pub just_enough : ends 0 0 (delete 0 (pos 3) (two 10 4)) ≡ shown (Said Yes) 35 10 4 0
+  pub no_node : ends 0 0 (delete 0 (pos 3) (two 9 8)) ≡ shown (Ok (Some NoRoom)) 16 9 3 0
+  pub no_record : ends 0 0 (delete 0 (pos 3) (two 16 3)) ≡ shown (Ok (Some NoRoom)) 16 9 3 0
+  pub just_enough : ends 0 0 (delete 0 (pos 3) (two 10 4)) ≡ shown (Ok (Some Yes)) 35 10 4 0
   -- nobody asked on the way; at the ends the tables are sound
   pub sound : sound_of (done 0 (delete 0 (pos 5) four)) && sound_of (done 0 (delete 0 (pos 3) (two 16 8))) ≡ true
 

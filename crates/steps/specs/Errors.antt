@@ -1,14 +1,13 @@
 -- 01, 'Errors that look right' and 'How tight the contracts are': evenings on which each wrong machine would say something else.
-use Rattle.std.specs.Prelude.{ℕ, zero, suc, ◌≡◌, refl, Bool, true, false, List, [], ◌∷◌, pos, eqb}
+use Rattle.std.specs.Prelude.{ℕ, zero, suc, ◌≡◌, refl, Bool, true, false, List, [], ◌∷◌, pos, eqb, None, Some, Ok, Err}
 use Rattle.std.proofs.Common.{ap, sym, ◌∙◌, true≢false}
 use Rattle.std.proofs.lemmas.Bool.{false≢true}
 use Rattle.shapes.specs.declared.Key.{Key}
 use Rattle.shapes.specs.declared.Place.TheVariants as place
 use Rattle.shapes.specs.declared.Operation.TheVariants.{Insert}
 use Rattle.shapes.specs.declared.Refusal.{Refusal}
-use Rattle.shapes.specs.declared.Outcome.{Outcome}
-use Rattle.shapes.specs.declared.Outcome.TheVariants.{Going, Said, Refused}
 use Rattle.shapes.specs.declared.Answer.TheVariants.{Yes, No, Keys, NoRoom, NoPhase}
+use Rattle.shapes.specs.Outcomes.{Outcome}
 use Rattle.tables.specs.Names.{node, record_no, phase, root, mark, key_of}
 use Rattle.tables.specs.World.{World, Tables, totals_of, tables_of}
 use Rattle.tables.specs.Fresh.{Left, refused}
@@ -48,13 +47,13 @@ stale_find =
 -- P8 is the first of 01's errors: a record tried without comparing Counter
 pub record Errors : Type 0 where
   -- 'a scan that follows the newest child and ignores phases' would find 5, in 8 turns
-  pub newest_child : show old_scan ≡ shown (Said (Keys 0)) 5 6 2 1
+  pub newest_child : show old_scan ≡ shown (Ok (Some (Keys 0))) 5 6 2 1
   -- 'comparing only the record of an update word in a CAS' would go on, to 18 turns: the tenth fails, then a whole attempt
-  pub only_the_record103 : show marked_root ≡ shown (Said Yes) 28 9 3 0
+  pub only_the_record103 : show marked_root ≡ shown (Ok (Some Yes)) 28 9 3 0
   -- and here: turns 14 to 18 fail, see that, abort and say so; then a whole attempt
-  pub only_the_record117 : show marked_leaf ≡ shown (Said Yes) 36 9 3 0
+  pub only_the_record117 : show marked_leaf ≡ shown (Ok (Some Yes)) 36 9 3 0
   -- 'treating MARK with COMMIT as unfrozen' would say yes, in 13 turns; after the first 5, two come to line 53, five are HELP's, and a new attempt takes 11
-  pub mark_with_commit : show stale_find ≡ shown (Said No) 23 14 6 0
+  pub mark_with_commit : show stale_find ≡ shown (Ok (Some No)) 23 14 6 0
 
 pub errors : Errors
 unfolding steps_opened fresh insert delete find scans answer show took done two three old_scan marked_root marked_leaf stale_find
@@ -81,13 +80,13 @@ diary (suc k) s =
     seen t ∷ diary k t
 
 unfoldable pub is_yes : Outcome → Bool
-is_yes Going = false
-is_yes (Said Yes) = true
-is_yes (Said No) = false
-is_yes (Said (Keys k)) = false
-is_yes (Said NoRoom) = false
-is_yes (Said NoPhase) = false
-is_yes (Refused r) = false
+is_yes (Ok None) = false
+is_yes (Ok (Some Yes)) = true
+is_yes (Ok (Some No)) = false
+is_yes (Ok (Some (Keys k))) = false
+is_yes (Ok (Some NoRoom)) = false
+is_yes (Ok (Some NoPhase)) = false
+is_yes (Err r) = false
 
 pub record Rejected : Type 0 where
   -- a turn that refuses always, with whatever refusal
@@ -101,7 +100,7 @@ pub record Rejected : Type 0 where
   -- a made-up turn count, whatever it is made of besides the tables: P1 and P2
   pub made_up_count : (count : ℕ → ℕ → ℕ) → ((n w : ℕ) (s : World) → count n w ≡ (run_of n s w).turns) → ⊥
   -- the first turn of insert 5, line 74, exactly: the worker has its phase and goes on to line 39; nothing else moves
-  pub first_turn : turn_of starts5 0 ≡ record { world = with_worker 0 (busy (Insert (key_of (pos 5)) place.Search39) (at_root (phase 0)) 0 0) starts5; outcome = Going }
+  pub first_turn : turn_of starts5 0 ≡ record { world = with_worker 0 (busy (Insert (key_of (pos 5)) place.Search39) (at_root (phase 0)) 0 0) starts5; outcome = (Ok None) }
   -- the tables after each of its 18 turns
   pub turn_by_turn : diary 18 starts5 ≡
       -- 74, 39, 52, 53, 57

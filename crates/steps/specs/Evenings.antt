@@ -1,6 +1,5 @@
 -- 01, 'Evenings worked through': P1 to P10, by computation from the definitions.
-use Rattle.std.specs.Prelude.{ℕ, ◌≡◌, refl, [], ◌∷◌, pos}
-use Rattle.shapes.specs.declared.Outcome.TheVariants.{Said}
+use Rattle.std.specs.Prelude.{ℕ, ◌≡◌, refl, [], ◌∷◌, pos, Some, Ok}
 use Rattle.shapes.specs.declared.Answer.TheVariants.{Yes, No, Keys, NoRoom}
 use Rattle.tables.specs.World.{World}
 use Rattle.steps.specs.Turn.{Ran, run_from}
@@ -33,20 +32,20 @@ two_inserts n = answer 0 (insert 0 (pos 3) (answer 0 (insert 0 (pos 5) (fresh n 
 
 -- each: the answer, the turns, nodes used, records used, Counter; and the keys of a scan
 pub record Evenings : Type 0 where
-  pub p1 : show (answer 0 (find 0 (pos 5) (fresh 16 4))) ≡ shown (Said No) 6 3 1 0
-  pub p2 : show insert5 ≡ shown (Said Yes) 18 6 2 0
-  pub p3 : show (answer 0 (find 0 (pos 5) with5)) ≡ shown (Said Yes) 11 6 2 0
-  pub p4 : show (answer 0 (insert 0 (pos 5) with5)) ≡ shown (Said No) 11 6 2 0
-  pub p5 : show (answer 0 (delete 0 (pos 5) with5)) ≡ shown (Said Yes) 34 7 3 0
-  pub p6 : show (answer 0 (scans 0 (pos 0) (pos 9) (fresh 16 4))) ≡ shown (Said (Keys 0)) 5 3 1 1
-  pub p7 : show (answer 0 (scans 0 (pos 0) (pos 9) with5)) ≡ shown (Said (Keys 1)) 8 6 2 1
+  pub p1 : show (answer 0 (find 0 (pos 5) (fresh 16 4))) ≡ shown (Ok (Some No)) 6 3 1 0
+  pub p2 : show insert5 ≡ shown (Ok (Some Yes)) 18 6 2 0
+  pub p3 : show (answer 0 (find 0 (pos 5) with5)) ≡ shown (Ok (Some Yes)) 11 6 2 0
+  pub p4 : show (answer 0 (insert 0 (pos 5) with5)) ≡ shown (Ok (Some No)) 11 6 2 0
+  pub p5 : show (answer 0 (delete 0 (pos 5) with5)) ≡ shown (Ok (Some Yes)) 34 7 3 0
+  pub p6 : show (answer 0 (scans 0 (pos 0) (pos 9) (fresh 16 4))) ≡ shown (Ok (Some (Keys 0))) 5 3 1 1
+  pub p7 : show (answer 0 (scans 0 (pos 0) (pos 9) with5)) ≡ shown (Ok (Some (Keys 1))) 8 6 2 1
   pub p7_keys : keys_of 1 0 (answer 0 (scans 0 (pos 0) (pos 9) with5)) ≡ pos 5 ∷ []
-  pub p8 : show insert_past_scan ≡ shown (Said Yes) 33 9 3 1
-  pub p9 : show scan_helps ≡ shown (Said (Keys 1)) 16 6 2 1
+  pub p8 : show insert_past_scan ≡ shown (Ok (Some Yes)) 33 9 3 1
+  pub p9 : show scan_helps ≡ shown (Ok (Some (Keys 1))) 16 6 2 1
   pub p9_keys : keys_of 1 1 scan_helps ≡ pos 5 ∷ []
-  pub p9_insert : show insert_helped ≡ shown (Said Yes) 15 6 2 1
-  pub p10 : show (two_inserts 8) ≡ shown (Said NoRoom) 11 6 2 0
-  pub p10_nine : show (two_inserts 9) ≡ shown (Said Yes) 23 9 3 0
+  pub p9_insert : show insert_helped ≡ shown (Ok (Some Yes)) 15 6 2 1
+  pub p10 : show (two_inserts 8) ≡ shown (Ok (Some NoRoom)) 11 6 2 0
+  pub p10_nine : show (two_inserts 9) ≡ shown (Ok (Some Yes)) 23 9 3 0
 
 pub evenings : Evenings
 unfolding steps_opened fresh insert delete find scans answer show keys_of insert5 with5 insert_past_scan scan_helps insert_helped two_inserts

@@ -1,19 +1,17 @@
 -- FROZEN and EXECUTE (lines 89 to 106).
-use Rattle.std.specs.Prelude.{ℕ, ◌+◌, List, Bool, eqb, ltb}
+use Rattle.std.specs.Prelude.{ℕ, ◌+◌, List, Bool, eqb, ltb, None, Some}
 use Rattle.laws.specs.Choice.{pick}
 use Rattle.shapes.specs.declared.NodeNo.{NodeNo}
 use Rattle.shapes.specs.declared.Update.{Update}
 use Rattle.shapes.specs.declared.Locals.{Locals}
 use Rattle.shapes.specs.declared.Filling.{Filling}
-use Rattle.shapes.specs.declared.MaybeNode.TheVariants.{At}
 use Rattle.shapes.specs.declared.Kind.{Kind}
 use Rattle.shapes.specs.declared.Kind.TheVariants as kind
 use Rattle.shapes.specs.declared.HelpStep.TheVariants.{Counter111}
 use Rattle.shapes.specs.declared.Back.TheVariants.{Own}
 use Rattle.shapes.specs.declared.Place.TheVariants as place
 use Rattle.shapes.specs.declared.Effect.TheVariants as effect
-use Rattle.shapes.specs.declared.Decision.{Decision}
-use Rattle.shapes.specs.declared.Decision.TheVariants as decision
+use Rattle.shapes.specs.Outcomes.{Decision}
 use Rattle.tables.specs.Names.{flag, update, same_update}
 use Rattle.tables.specs.Nodes.{kind_at, update_at}
 use Rattle.tables.specs.Records.{aborted, state_at, entry_at, entry, no_entry, in_progress, helpable, fillable}
@@ -42,30 +40,30 @@ delete_filling v g = record { count = 4; par = g; old = v.p; new = v.made; seq =
 -- line 102, with the nodes that it lists as parent, grandparent and copy of the right kind; line 103 is next
 unfoldable pub fill_insert : List ℕ → Locals → Decision
 fill_insert ns v =
-    through (as_parent ns (At v.p)) (λ p.
+    through (as_parent ns (Some v.p)) (λ p.
     does (effect.Fill v.info (insert_filling v)) (holding v.info) place.Freeze103)
 
 -- the copy is of the sibling's kind
 unfoldable pub fill_delete : List ℕ → Locals → Decision
 fill_delete ns v =
     through (as_parent ns v.gp) (λ g.
-    through (as_parent ns (At v.p)) (λ p.
+    through (as_parent ns (Some v.p)) (λ p.
     pick (eqb (kind_at ns v.made) (kind_at ns v.sibling))
     (does (effect.Fill v.info (delete_filling v g)) (holding v.info) place.Freeze103)
-    decision.Crooked))
+    None))
 
 -- a find has nothing to fill
 unfoldable pub fills : List ℕ → Kind → Locals → Decision
 fills ns kind.Insert v = fill_insert ns v
 fills ns kind.Delete v = fill_delete ns v
-fills ns kind.Find v = decision.Crooked
+fills ns kind.Find v = None
 
 -- lines 96 and 97; the last test is followed by line 102, unless it would fill the dummy or a filled record
 unfoldable pub frozen97 : List ℕ → List ℕ → Kind → Locals → Decision
 frozen97 ns rs o v =
     pick (frozen rs (old_update o v v.i)) (goes v place.State98)
     (pick (ltb v.i (listed o)) (goes (with_i v (v.i + 1)) place.Frozen97)
-    (pick (fillable rs v.info) (fills ns o v) decision.Crooked))
+    (pick (fillable rs v.info) (fills ns o v) None))
 
 -- lines 98 and 99: the state is read a second time
 unfoldable pub state98 : List ℕ → Kind → Locals → Decision
@@ -81,4 +79,4 @@ freeze103 ns rs v =
     (pick (same_update (update_at ns e.node) e.old)
     (does (effect.Freeze e.node (update flag v.info)) (holding v.info) (place.Help Counter111 Own))
     retries)
-    decision.Crooked
+    None

@@ -1,12 +1,10 @@
 -- What a worker takes into its hand, and what a turn can decide.
-use Rattle.std.specs.Prelude.{ℕ}
+use Rattle.std.specs.Prelude.{ℕ, Option, None, Some}
 use Rattle.shapes.specs.declared.NodeNo.{NodeNo}
 use Rattle.shapes.specs.declared.RecordNo.{RecordNo}
 use Rattle.shapes.specs.declared.Phase.{Phase}
 use Rattle.shapes.specs.declared.Update.{Update}
 use Rattle.shapes.specs.declared.Locals.{Locals}
-use Rattle.shapes.specs.declared.MaybeNode.{MaybeNode}
-use Rattle.shapes.specs.declared.MaybeNode.TheVariants.{Absent, At}
 use Rattle.shapes.specs.declared.HelpStep.TheVariants.{Counter111}
 use Rattle.shapes.specs.declared.Back.TheVariants.{Again}
 use Rattle.shapes.specs.declared.Place.{Place}
@@ -14,11 +12,9 @@ use Rattle.shapes.specs.declared.Place.TheVariants as place
 use Rattle.shapes.specs.declared.Effect.{Effect}
 use Rattle.shapes.specs.declared.Effect.TheVariants as effect
 use Rattle.shapes.specs.declared.PendingChange.TheVariants as pending
-use Rattle.shapes.specs.declared.FoundChange.TheVariants as found
 use Rattle.shapes.specs.declared.Answer.{Answer}
 use Rattle.shapes.specs.declared.Next.TheVariants as next
-use Rattle.shapes.specs.declared.Decision.{Decision}
-use Rattle.shapes.specs.declared.Decision.TheVariants as decision
+use Rattle.shapes.specs.Outcomes.{Decision}
 use Rattle.tables.specs.Names.{phase, root, dummy, fresh_word}
 use Rattle.tables.specs.World.{blank}
 
@@ -26,7 +22,7 @@ use Rattle.tables.specs.World.{blank}
 
 -- a scan at a node with the record of its word (lines 139 and 140)
 abbrev pub at_word : Phase → NodeNo → RecordNo → Locals
-at_word q x r = record { seq = q; gp = Absent; p = x; l = root; gpup = fresh_word; pup = fresh_word; lup = fresh_word; sup = fresh_word; up = fresh_word; sibling = root; made = root; info = r; i = 0 }
+at_word q x r = record { seq = q; gp = None; p = x; l = root; gpup = fresh_word; pup = fresh_word; lup = fresh_word; sup = fresh_word; up = fresh_word; sibling = root; made = root; info = r; i = 0 }
 
 -- a scan at a node
 abbrev pub at_node : Phase → NodeNo → Locals
@@ -42,7 +38,7 @@ holding r = at_word (phase 0) root r
 
 -- lines 37 and 38
 abbrev pub down_to : Locals → NodeNo → Locals
-down_to v c = record { seq = v.seq; gp = At v.p; p = c; l = v.l; gpup = v.gpup; pup = v.pup; lup = v.lup; sup = v.sup; up = v.up; sibling = v.sibling; made = v.made; info = v.info; i = v.i }
+down_to v c = record { seq = v.seq; gp = Some v.p; p = c; l = v.l; gpup = v.gpup; pup = v.pup; lup = v.lup; sup = v.sup; up = v.up; sibling = v.sibling; made = v.made; info = v.info; i = v.i }
 
 abbrev pub with_leaf : Locals → NodeNo → Locals
 with_leaf v c = record { seq = v.seq; gp = v.gp; p = v.p; l = c; gpup = v.gpup; pup = v.pup; lup = v.lup; sup = v.sup; up = v.up; sibling = v.sibling; made = v.made; info = v.info; i = v.i }
@@ -75,13 +71,13 @@ with_i v k = record { seq = v.seq; gp = v.gp; p = v.p; l = v.l; gpup = v.gpup; p
 -- ---- decisions that leave the worker's lists alone
 
 abbrev pub does : Effect → Locals → Place → Decision
-does e v q = decision.Go (record { effect = e; hand = v; pending = pending.Keep; found = found.Keep; next = next.At q })
+does e v q = Some (record { effect = e; hand = v; pending = pending.Keep; found = None; next = next.At q })
 
 abbrev pub goes : Locals → Place → Decision
 goes v q = does effect.Nothing v q
 
 abbrev pub says : Answer → Decision
-says a = decision.Go (record { effect = effect.Nothing; hand = blank; pending = pending.Keep; found = found.Keep; next = next.Answers a })
+says a = Some (record { effect = effect.Nothing; hand = blank; pending = pending.Keep; found = None; next = next.Answers a })
 
 -- a new attempt: the loops of lines 73, 154 and 176
 abbrev pub retries : Decision
@@ -92,6 +88,6 @@ abbrev pub helps : RecordNo → Decision
 helps r = goes (holding r) (place.Help Counter111 Again)
 
 -- go on with a node that is there, or the turn is crooked
-unfoldable pub through : MaybeNode → (NodeNo → Decision) → Decision
-through Absent f = decision.Crooked
-through (At x) f = f x
+unfoldable pub through : Option NodeNo → (NodeNo → Decision) → Decision
+through None f = None
+through (Some x) f = f x

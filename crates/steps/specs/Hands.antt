@@ -1,11 +1,10 @@
 -- Tables made by hand: one word, worker or count of a world set to something else.
-use Rattle.std.specs.Prelude.{ℕ, ◌+◌, ◌*◌, replicate, take, set, pos}
+use Rattle.std.specs.Prelude.{ℕ, ◌+◌, ◌*◌, replicate, take, set, pos, Option, Some}
 use Rattle.shapes.specs.declared.Totals.{Totals}
 use Rattle.shapes.specs.declared.Locals.{Locals}
 use Rattle.shapes.specs.declared.Worker.{Worker}
-use Rattle.shapes.specs.declared.MaybeNode.{MaybeNode}
 use Rattle.shapes.specs.declared.Operation.{Operation}
-use Rattle.shapes.specs.declared.Condition.TheVariants.{Busy}
+use Rattle.shapes.specs.declared.NodeNo.{NodeNo}
 use Rattle.tables.specs.Names.{node, phase, root, dummy, fresh_word}
 use Rattle.tables.specs.Rows.{put_word}
 use Rattle.tables.specs.Nodes.{node_width}
@@ -111,7 +110,7 @@ with_pending w i x s = record { board = s.board; nodes = s.nodes; records = s.re
 
 -- so many pending and so many found
 abbrev pub busy : Operation → Locals → ℕ → ℕ → Worker
-busy o v pending found = record { condition = Busy o; hand = v; pending = pending; found = found }
+busy o v pending found = record { operation = Some o; hand = v; pending = pending; found = found }
 
 -- worker 0 holds the operation o with v in hand, none pending and none found
 abbrev pub doing : Operation → Locals → World → World
@@ -120,7 +119,7 @@ doing o v s = with_worker 0 (busy o v 0 0) s
 -- ---- hands
 
 -- phase 0, gp, p and l; nothing else read
-abbrev pub hand : MaybeNode → ℕ → ℕ → Locals
+abbrev pub hand : Option NodeNo → ℕ → ℕ → Locals
 hand gp p l = record { seq = phase 0; gp = gp; p = node p; l = node l; gpup = fresh_word; pup = fresh_word; lup = fresh_word; sup = fresh_word; up = fresh_word; sibling = root; made = root; info = dummy; i = 0 }
 
 abbrev pub with_seq : Locals → ℕ → Locals

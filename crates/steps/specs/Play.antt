@@ -1,11 +1,10 @@
 -- Evenings played from fresh tables, as 01 tells them.
-use Rattle.std.specs.Prelude.{ℕ, zero, suc, ◌+◌, ◌*◌, List, [], ◌∷◌, ◌++◌, Bool, true, false, ◌&&◌, eqb, replicate, take, drop, ℤ, pos}
+use Rattle.std.specs.Prelude.{ℕ, zero, suc, ◌+◌, ◌*◌, List, [], ◌∷◌, ◌++◌, Bool, true, false, ◌&&◌, eqb, replicate, take, drop, ℤ, pos, Option, None, Some}
 use Rattle.laws.specs.Choice.{pick}
-use Rattle.shapes.specs.declared.Outcome.{Outcome}
 use Rattle.shapes.specs.declared.Place.{Place}
 use Rattle.shapes.specs.declared.Operation.TheVariants.{Insert, Delete, Find, Scan}
-use Rattle.shapes.specs.declared.Condition.{Condition}
-use Rattle.shapes.specs.declared.Condition.TheVariants.{Idle, Busy}
+use Rattle.shapes.specs.declared.Operation.{Operation}
+use Rattle.shapes.specs.Outcomes.{Outcome}
 use Rattle.tables.specs.Names.{key_of}
 use Rattle.tables.specs.Nodes.{node_width}
 use Rattle.tables.specs.Records.{record_width}
@@ -82,19 +81,19 @@ done w s = took to_the_end w s
 unfoldable pub ends : ℕ → ℕ → World → Shown
 ends before w s = show (stepped to_the_end before w s)
 
-unfoldable pub place_in : Condition → List Place
-place_in Idle = []
-place_in (Busy (Insert k q)) = q ∷ []
-place_in (Busy (Delete k q)) = q ∷ []
-place_in (Busy (Find k q)) = q ∷ []
-place_in (Busy (Scan a b q)) = q ∷ []
+unfoldable pub place_in : Option Operation → List Place
+place_in None = []
+place_in (Some (Insert k q)) = q ∷ []
+place_in (Some (Delete k q)) = q ∷ []
+place_in (Some (Find k q)) = q ∷ []
+place_in (Some (Scan a b q)) = q ∷ []
 
 -- the places of worker w's next k turns, in order
 unfoldable pub places_of : ℕ → ℕ → World → List Place
 places_of zero w s = []
 places_of (suc k) w s =
     let rest = places_of k w (step_of s w).world in
-    place_in (worker_at s w).condition ++ rest
+    place_in (worker_at s w).operation ++ rest
 
 -- ---- the same as before
 

@@ -1,15 +1,14 @@
 -- SEARCH (lines 32 to 42).
-use Rattle.std.specs.Prelude.{ℕ, List, Bool, ltb}
+use Rattle.std.specs.Prelude.{ℕ, List, Bool, ltb, Some}
 use Rattle.laws.specs.Choice.{pick}
 use Rattle.shapes.specs.declared.NodeNo.{NodeNo}
 use Rattle.shapes.specs.declared.Key.{Key}
 use Rattle.shapes.specs.declared.Totals.{Totals}
 use Rattle.shapes.specs.declared.Locals.{Locals}
-use Rattle.shapes.specs.declared.MaybeNode.TheVariants.{At}
 use Rattle.shapes.specs.declared.Link.TheVariants.{Leaf64}
 use Rattle.shapes.specs.declared.LinkStep.TheVariants.{Word52}
 use Rattle.shapes.specs.declared.Place.TheVariants as place
-use Rattle.shapes.specs.declared.Decision.{Decision}
+use Rattle.shapes.specs.Outcomes.{Decision}
 use Rattle.tables.specs.Nodes.{is_internal, key_at}
 use Rattle.tables.specs.Versions.{read_child, as_parent}
 use Rattle.steps.specs.Hand.{down_to, with_leaf, goes, through}
@@ -25,5 +24,5 @@ landed ns v c = pick (is_internal ns c) (goes (down_to v c) place.Search39) (goe
 -- line 39: l := READCHILD(p, k < p's key, seq)
 unfoldable pub search39 : Totals → List ℕ → Key → Locals → Decision
 search39 t ns k v =
-    through (as_parent ns (At v.p)) (λ p.
+    through (as_parent ns (Some v.p)) (λ p.
     through (read_child t.nodes ns p (goes_left ns k p) v.seq) (landed ns v))

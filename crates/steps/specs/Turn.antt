@@ -1,5 +1,5 @@
 -- The calls: a turn, the four starts, and a run of up to n turns, with their refusals in 01's order.
-use Rattle.std.specs.Prelude.{ℕ, zero, suc, ◌+◌, ◌-◌, List, set, ℤ, ltb}
+use Rattle.std.specs.Prelude.{ℕ, zero, suc, ◌+◌, ◌-◌, List, set, ℤ, ltb, Option, None, Some, Ok, Err}
 use Rattle.laws.specs.Choice.{pick}
 use Rattle.shapes.specs.declared.Key.{Key}
 use Rattle.shapes.specs.declared.Worker.{Worker}
@@ -7,20 +7,14 @@ use Rattle.shapes.specs.declared.Place.{Place}
 use Rattle.shapes.specs.declared.Place.TheVariants as place
 use Rattle.shapes.specs.declared.Operation.{Operation}
 use Rattle.shapes.specs.declared.Operation.TheVariants.{Insert, Delete, Find, Scan}
-use Rattle.shapes.specs.declared.Condition.{Condition}
-use Rattle.shapes.specs.declared.Condition.TheVariants.{Idle, Busy}
 use Rattle.shapes.specs.declared.PendingChange.{PendingChange}
 use Rattle.shapes.specs.declared.PendingChange.TheVariants as pending
-use Rattle.shapes.specs.declared.FoundChange.{FoundChange}
-use Rattle.shapes.specs.declared.FoundChange.TheVariants as found
 use Rattle.shapes.specs.declared.Next.{Next}
 use Rattle.shapes.specs.declared.Next.TheVariants as next
 use Rattle.shapes.specs.declared.Step.{Step}
-use Rattle.shapes.specs.declared.Decision.{Decision}
-use Rattle.shapes.specs.declared.Decision.TheVariants as decision
-use Rattle.shapes.specs.declared.Outcome.{Outcome}
-use Rattle.shapes.specs.declared.Outcome.TheVariants.{Going, Said, Refused}
 use Rattle.shapes.specs.declared.Refusal.TheVariants as refusal
+use Rattle.shapes.specs.Outcomes.{Decision}
+use Rattle.shapes.specs.Outcomes.{Outcome}
 use Rattle.tables.specs.Names.{number_of}
 use Rattle.tables.specs.World.{World, totals_of, tables_of, blank, worker_at, spot, pending_at}
 use Rattle.tables.specs.Fresh.{Left, refused}
@@ -42,9 +36,9 @@ pending_left n pending.Keep = n
 pending_left n (pending.Push x) = n + 1
 pending_left n pending.Pop = n - 1
 
-unfoldable pub found_left : ℕ → FoundChange → ℕ
-found_left n found.Keep = n
-found_left n (found.Add k) = n + 1
+unfoldable pub found_left : ℕ → Option Key → ℕ
+found_left n None = n
+found_left n (Some k) = n + 1
 
 -- places behind a count keep their contents
 unfoldable pub pushed : List ℕ → ℕ → PendingChange → List ℕ
@@ -52,18 +46,18 @@ pushed l at pending.Keep = l
 pushed l at (pending.Push x) = set l at x.0
 pushed l at pending.Pop = l
 
-unfoldable pub added : List ℤ → ℕ → FoundChange → List ℤ
-added l at found.Keep = l
-added l at (found.Add k) = set l at (number_of k)
+unfoldable pub added : List ℤ → ℕ → Option Key → List ℤ
+added l at None = l
+added l at (Some k) = set l at (number_of k)
 
 -- after any answer the worker is idle with none pending, and keeps its found keys
 unfoldable pub worker_next : Worker → Operation → Step → Next → Worker
-worker_next k o d (next.At q) = record { condition = Busy (moved o q); hand = d.hand; pending = pending_left k.pending d.pending; found = found_left k.found d.found }
-worker_next k o d (next.Answers a) = record { condition = Idle; hand = d.hand; pending = 0; found = found_left k.found d.found }
+worker_next k o d (next.At q) = record { operation = Some (moved o q); hand = d.hand; pending = pending_left k.pending d.pending; found = found_left k.found d.found }
+worker_next k o d (next.Answers a) = record { operation = None; hand = d.hand; pending = 0; found = found_left k.found d.found }
 
 unfoldable pub outcome_of : Next → Outcome
-outcome_of (next.At q) = Going
-outcome_of (next.Answers a) = Said a
+outcome_of (next.At q) = Ok None
+outcome_of (next.Answers a) = Ok (Some a)
 
 -- the tables, worker w and its lists anew; nothing else moves
 unfoldable pub settled : World → ℕ → Worker → Operation → Step → World
@@ -78,21 +72,21 @@ settled s w k o d =
     }
 
 unfoldable pub settle : World → ℕ → Worker → Operation → Decision → Left
-settle s w k o decision.Crooked = refused s refusal.Crooked
-settle s w k o (decision.Go d) = record { world = settled s w k o d; outcome = outcome_of d.next }
+settle s w k o None = refused s refusal.Crooked
+settle s w k o (Some d) = record { world = settled s w k o d; outcome = outcome_of d.next }
 
 -- ---- the turn: refusal 1, then 3, then 5, then 7
 
 unfoldable pub lists_of : World → ℕ → Worker → Lists
 lists_of s w k = record { top = pending_at s w (k.pending - 1); pending = k.pending; found = k.found }
 
-unfoldable pub step_on : World → ℕ → Worker → Condition → Left
-step_on s w k Idle = refused s refusal.Idle
-step_on s w k (Busy o) = settle s w k o (decide (tables_of s) (lists_of s w k) o k.hand)
+unfoldable pub step_on : World → ℕ → Worker → Option Operation → Left
+step_on s w k None = refused s refusal.Idle
+step_on s w k (Some o) = settle s w k o (decide (tables_of s) (lists_of s w k) o k.hand)
 
 -- a turn on tables that are sound
 unfoldable pub step_of : World → ℕ → Left
-step_of s w = pick (ltb w (totals_of s).p) (step_on s w (worker_at s w) (worker_at s w).condition) (refused s refusal.Worker)
+step_of s w = pick (ltb w (totals_of s).p) (step_on s w (worker_at s w) (worker_at s w).operation) (refused s refusal.Worker)
 
 -- a turn on any tables: refusal 1 comes first
 unfoldable pub turn_of : World → ℕ → Left
@@ -102,21 +96,21 @@ turn_of s w = pick (sound_of s) (step_of s w) (refused s refusal.Table)
 
 unfoldable pub started : World → ℕ → Worker → Operation → World
 started s w k o = record {
-  board = record { totals = totals_of s; workers = set s.board.workers w (record { condition = Busy o; hand = blank; pending = k.pending; found = 0 }) };
+  board = record { totals = totals_of s; workers = set s.board.workers w (record { operation = Some o; hand = blank; pending = k.pending; found = 0 }) };
   nodes = s.nodes;
   records = s.records;
   pending = s.pending;
   found = s.found;
 }
 
-unfoldable pub begin : World → ℕ → Worker → Operation → Condition → Left
-begin s w k o Idle = record { world = started s w k o; outcome = Going }
-begin s w k o (Busy old) = refused s refusal.Busy
+unfoldable pub begin : World → ℕ → Worker → Operation → Option Operation → Left
+begin s w k o None = record { world = started s w k o; outcome = (Ok None) }
+begin s w k o (Some old) = refused s refusal.Busy
 
 unfoldable pub start_of : World → ℕ → Operation → Left
 start_of s w o =
     pick (sound_of s)
-    (pick (ltb w (totals_of s).p) (begin s w (worker_at s w) o (worker_at s w).condition) (refused s refusal.Worker))
+    (pick (ltb w (totals_of s).p) (begin s w (worker_at s w) o (worker_at s w).operation) (refused s refusal.Worker))
     (refused s refusal.Table)
 
 -- one start for each kind of operation
@@ -141,13 +135,13 @@ pub record Ran : Type 0 where
 
 -- what a turn comes to, after n accepted ones; the rest of the run counts only where it goes on
 unfoldable pub goes_on : Outcome → World → ℕ → Ran → Ran
-goes_on Going s n rest = rest
-goes_on (Said a) s n rest = record { world = s; outcome = Said a; turns = suc n }
-goes_on (Refused r) s n rest = record { world = s; outcome = Refused r; turns = n }
+goes_on (Ok None) s n rest = rest
+goes_on (Ok (Some a)) s n rest = record { world = s; outcome = Ok (Some a); turns = suc n }
+goes_on (Err r) s n rest = record { world = s; outcome = Err r; turns = n }
 
 -- by a way to take a turn, where n turns were taken before
 unfoldable pub run_by : (World → ℕ → Left) → ℕ → ℕ → ℕ → World → Ran
-run_by turn zero n w s = record { world = s; outcome = Going; turns = n }
+run_by turn zero n w s = record { world = s; outcome = Ok None; turns = n }
 run_by turn (suc k) n w s =
     let d = turn s w in
     let rest = run_by turn k (suc n) w d.world in

@@ -1,31 +1,29 @@
 -- What is to be shown of every decision: of one that asks for a node first, and of a scan's, whatever its place.
+use Rattle.std.specs.Prelude.{Option, None, Some}
 use Rattle.shapes.specs.declared.NodeNo.{NodeNo}
 use Rattle.shapes.specs.declared.Key.{Key}
 use Rattle.shapes.specs.declared.Locals.{Locals}
-use Rattle.shapes.specs.declared.MaybeNode.{MaybeNode}
-use Rattle.shapes.specs.declared.MaybeNode.TheVariants.{Absent, At}
 use Rattle.shapes.specs.declared.HelpStep.{HelpStep}
 use Rattle.shapes.specs.declared.Back.{Back}
 use Rattle.shapes.specs.declared.Place.{Place}
 use Rattle.shapes.specs.declared.Place.TheVariants as place
-use Rattle.shapes.specs.declared.Decision.{Decision}
-use Rattle.shapes.specs.declared.Decision.TheVariants as decision
+use Rattle.shapes.specs.Outcomes.{Decision}
 use Rattle.tables.specs.World.{Tables}
 use Rattle.steps.specs.Hand.{through}
 use Rattle.steps.specs.Scan.{Lists}
 use Rattle.steps.specs.Decide.{scan}
 
-pub through_each : (P : Decision → Type 0) → P decision.Crooked → (m : MaybeNode) (g : NodeNo → Decision) → ((x : NodeNo) → P (g x)) → P (through m g)
+pub through_each : (P : Decision → Type 0) → P None → (m : Option NodeNo) (g : NodeNo → Decision) → ((x : NodeNo) → P (g x)) → P (through m g)
 unfolding through
-through_each P crooked Absent g h = crooked
-through_each P crooked (At x) g h = h x
+through_each P crooked None g h = crooked
+through_each P crooked (Some x) g h = h x
 
 -- at an attempt's place a scan is crooked, so there are seven to go through; of two tables at once, or of one twice
 module _ (s t : Tables) (ls : Lists) (a b : Key) (v : Locals) (P : Place → Decision → Decision → Type 0) where
   abbrev Shown : Place → Type 0
   Shown q = P q (scan s ls a b v q) (scan t ls a b v q)
 
-  pub scan-places : ((q : Place) → P q decision.Crooked decision.Crooked) → ((c : HelpStep) (d : Back) → Shown (place.Help c d)) → Shown place.Counter130 → Shown place.Bump131 → Shown place.Word139 → Shown place.State140 → Shown place.Child141 → Shown place.Left144 → (q : Place) → Shown q
+  pub scan-places : ((q : Place) → P q None None) → ((c : HelpStep) (d : Back) → Shown (place.Help c d)) → Shown place.Counter130 → Shown place.Bump131 → Shown place.Word139 → Shown place.State140 → Shown place.Child141 → Shown place.Left144 → (q : Place) → Shown q
   unfolding scan
   scan-places none help c130 b131 w139 s140 c141 l144 place.Counter74 = none place.Counter74
   scan-places none help c130 b131 w139 s140 c141 l144 place.Search39 = none place.Search39

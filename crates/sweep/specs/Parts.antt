@@ -1,15 +1,13 @@
 -- A scan's range, lists and visits, made of the values that the code passes.
-use Rattle.std.specs.Prelude.{ℕ}
+use Rattle.std.specs.Prelude.{ℕ, Option, Some}
 use Rattle.shapes.specs.declared.NodeNo.{NodeNo}
 use Rattle.shapes.specs.declared.Phase.{Phase}
 use Rattle.shapes.specs.declared.Key.{Key}
 use Rattle.shapes.specs.declared.Locals.{Locals}
 use Rattle.shapes.specs.declared.Effect.TheVariants as effect
 use Rattle.shapes.specs.declared.PendingChange.{PendingChange}
-use Rattle.shapes.specs.declared.FoundChange.{FoundChange}
 use Rattle.shapes.specs.declared.Next.{Next}
-use Rattle.shapes.specs.declared.Decision.{Decision}
-use Rattle.shapes.specs.declared.Decision.TheVariants as decision
+use Rattle.shapes.specs.Outcomes.{Decision}
 use Rattle.steps.specs.Scan.{Lists, Range}
 use Rattle.sweep.specs.declared.visits.Visit.{Visit}
 
@@ -27,5 +25,5 @@ abbrev pub range : Visit → Range
 range w = span w.low w.high w.seq
 
 -- a turn that touches nothing but the scan's own lists
-abbrev pub sweeps_on : PendingChange → Locals → FoundChange → Next → Decision
-sweeps_on change hand found next = decision.Go (record { effect = effect.Nothing; hand = hand; pending = change; found = found; next = next })
+abbrev pub sweeps_on : PendingChange → Locals → Option Key → Next → Decision
+sweeps_on change hand found next = Some (record { effect = effect.Nothing; hand = hand; pending = change; found = found; next = next })

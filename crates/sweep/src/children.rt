@@ -5,7 +5,7 @@ ghost use Rattle.sweep.specs.Parts.{span, lists};
 
 use crate::visits::{reads, visiting};
 use fields::{as_parent, key_at};
-use shapes::{Decision, Key, Locals, MaybeNode, NodeNo, PendingChange, Phase, Totals};
+use shapes::{Decision, Key, Locals, NodeNo, PendingChange, Phase, Totals};
 
 const LEFT: bool = true;
 
@@ -25,8 +25,8 @@ pub fn child141(
 {
     let p = v.p;
     let seq = v.seq;
-    let MaybeNode::At(x) = as_parent(nodes, MaybeNode::At(p)) else {
-        return Decision::Crooked;
+    let Some(x) = as_parent(nodes, Some(p)) else {
+        return None;
     };
     let key = key_at(nodes, x);
     let alone = visiting(low, high, seq, PendingChange::Keep, pending, found);
@@ -41,7 +41,7 @@ pub fn child141(
         let both = visiting(low, high, seq, push, pending + 1, found);
         return reads(totals, nodes, both, x, RIGHT);
     }
-    Decision::Crooked
+    None
 }
 
 fn popped(pending: u32) -> u32
@@ -63,8 +63,8 @@ pub fn left144(
 ) -> Decision
     ensures { result ≡ left144 totals nodes.now (span low high seq) (lists top pending found) }
 {
-    let MaybeNode::At(x) = as_parent(nodes, MaybeNode::At(top)) else {
-        return Decision::Crooked;
+    let Some(x) = as_parent(nodes, Some(top)) else {
+        return None;
     };
     let rest = popped(pending);
     let visit = visiting(low, high, seq, PendingChange::Pop, rest, found);

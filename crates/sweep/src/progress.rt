@@ -4,7 +4,7 @@ ghost use Rattle.steps.specs.Scan.{bump131, word139, state140};
 
 use fields::{as_parent, in_progress, state_at, update_at};
 use hand::{at_node, at_root, at_word, decide_to, go_to, say};
-use shapes::{Answer, Back, Decision, Effect, HelpStep, Locals, MaybeNode, Place, Totals};
+use shapes::{Answer, Back, Decision, Effect, HelpStep, Locals, Place, Totals};
 use tables::LAST_PHASE;
 
 // Line 131; no phase when Counter stands at its last value.
@@ -23,8 +23,8 @@ pub fn word139(nodes: &[u32], v: Locals) -> Decision
     ensures { result ≡ word139 nodes.now v }
 {
     let p = v.p;
-    let MaybeNode::At(x) = as_parent(nodes, MaybeNode::At(p)) else {
-        return Decision::Crooked;
+    let Some(x) = as_parent(nodes, Some(p)) else {
+        return None;
     };
     let word = update_at(nodes, x);
     go_to(at_word(v.seq, x, word.info), Place::State140)

@@ -5,10 +5,7 @@ ghost use Rattle.sweep.specs.Parts.{visit, range, sweeps_on};
 
 use fields::{blank, is_internal, key_at, rank_at, read_child};
 use hand::{at_node, at_root};
-use shapes::{
-    Answer, Decision, Effect, FoundChange, Key, Locals, MaybeNode, Next, NodeNo, PendingChange,
-    Phase, Place, Step, Totals,
-};
+use shapes::{Answer, Decision, Effect, Key, Locals, Next, NodeNo, PendingChange, Phase, Place, Step, Totals};
 
 // A call of SCANHELPER: the range, the phase, and the scan's lists as the change will leave them.
 #[derive(Clone, Copy)]
@@ -52,11 +49,11 @@ fn within(nodes: &[u32], visit: Visit, c: NodeNo) -> bool
 }
 
 // A turn that touches nothing but the scan's own lists.
-fn sweep_on(visit: Visit, hand: Locals, found: FoundChange, next: Next) -> Decision
+fn sweep_on(visit: Visit, hand: Locals, found: Option<Key>, next: Next) -> Decision
     ensures { result ≡ sweeps_on visit.change hand found next }
 {
     let change = visit.change;
-    Decision::Go(Step {
+    Some(Step {
         effect: Effect::Nothing,
         hand,
         pending: change,
@@ -66,7 +63,7 @@ fn sweep_on(visit: Visit, hand: Locals, found: FoundChange, next: Next) -> Decis
 }
 
 // Done with a leaf: on with a left child, or the answer.
-fn leaves(visit: Visit, found: FoundChange, keys: u32) -> Decision
+fn leaves(visit: Visit, found: Option<Key>, keys: u32) -> Decision
     ensures { result ≡ leaves (range visit) visit.change found visit.pending keys }
 {
     if visit.pending == 0 {
@@ -81,24 +78,24 @@ fn comes_to(totals: Totals, nodes: &[u32], visit: Visit, c: NodeNo) -> Decision
 {
     if is_internal(nodes, c) {
         let hand = at_node(visit.seq, c);
-        return sweep_on(visit, hand, FoundChange::Keep, Next::At(Place::Word139));
+        return sweep_on(visit, hand, None, Next::At(Place::Word139));
     }
     if within(nodes, visit, c) {
         if visit.keys < totals.n {
             let key = Key(rank_at(nodes, c).word);
-            return leaves(visit, FoundChange::Add(key), visit.keys + 1);
+            return leaves(visit, Some(key), visit.keys + 1);
         }
-        return Decision::Crooked;
+        return None;
     }
-    leaves(visit, FoundChange::Keep, visit.keys)
+    leaves(visit, None, visit.keys)
 }
 
 // READCHILD of x, then SCANHELPER.
 pub fn reads(totals: Totals, nodes: &[u32], visit: Visit, x: NodeNo, left: bool) -> Decision
     ensures { result ≡ reads totals nodes.now (range visit) visit.keys visit.change visit.pending x left }
 {
-    let MaybeNode::At(c) = read_child(totals.nodes, nodes, x, left, visit.seq) else {
-        return Decision::Crooked;
+    let Some(c) = read_child(totals.nodes, nodes, x, left, visit.seq) else {
+        return None;
     };
     comes_to(totals, nodes, visit, c)
 }

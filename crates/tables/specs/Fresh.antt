@@ -1,15 +1,13 @@
 -- 01, 'Sizes' and 'Fresh tables'.
-use Rattle.std.specs.Prelude.{ℕ, ◌*◌, List, [], ◌∷◌, ◌++◌, Bool, ◌&&◌, length, drop, replicate, ℤ, pos, leb}
+use Rattle.std.specs.Prelude.{ℕ, ◌*◌, List, [], ◌∷◌, ◌++◌, Bool, ◌&&◌, length, drop, replicate, ℤ, pos, leb, None, Ok, Err}
 use Rattle.laws.specs.Choice.{pick}
 use Rattle.laws.specs.Tests.{all}
 use Rattle.shapes.specs.Numbers.{least_n, most_n, least_m, most_m, least_p, most_p}
 use Rattle.shapes.specs.declared.Board.{Board}
 use Rattle.shapes.specs.declared.Reply.{Reply}
-use Rattle.shapes.specs.declared.Outcome.{Outcome}
-use Rattle.shapes.specs.declared.Outcome.TheVariants.{Going, Refused}
 use Rattle.shapes.specs.declared.Refusal.{Refusal}
 use Rattle.shapes.specs.declared.Refusal.TheVariants as refusal
-use Rattle.shapes.specs.declared.MaybeNode.TheVariants.{Absent}
+use Rattle.shapes.specs.Outcomes.{Outcome}
 use Rattle.tables.specs.Names.{node, phase, root, dummy, infinite}
 use Rattle.tables.specs.Nodes.{node_width, new_node}
 use Rattle.tables.specs.Records.{record_width, new_record, aborted, unfilled}
@@ -25,7 +23,7 @@ left r ns rs ps fs = record { world = world r.board ns rs ps fs; outcome = r.out
 
 -- a refusal leaves all as before
 abbrev pub refused : World → Refusal → Left
-refused s r = record { world = s; outcome = Refused r }
+refused s r = record { world = s; outcome = Err r }
 
 unfoldable pub between : ℕ → ℕ → ℕ → Bool
 between a x b = leb a x && leb x b
@@ -45,9 +43,9 @@ cleared k z l = replicate k z ++ drop k l
 unfoldable pub fresh_nodes : ℕ → List ℕ → List ℕ
 fresh_nodes n ns =
     new_node (new_node (new_node (cleared (n * node_width) 0 ns)
-    root 1 (infinite 2) (phase 0) Absent (node 1) (node 2))
-    (node 1) 0 (infinite 1) (phase 0) Absent root root)
-    (node 2) 0 (infinite 2) (phase 0) Absent root root
+    root 1 (infinite 2) (phase 0) None (node 1) (node 2))
+    (node 1) 0 (infinite 1) (phase 0) None root root)
+    (node 2) 0 (infinite 2) (phase 0) None root root
 
 -- record 0 is the dummy, state ABORT
 unfoldable pub fresh_records : ℕ → List ℕ → List ℕ
@@ -69,5 +67,5 @@ fresh_world n m p s = record {
 unfoldable pub fresh_of : ℕ → ℕ → ℕ → World → Left
 fresh_of n m p s =
     pick (sizes_ok n m p && lent_ok n m p s)
-    (record { world = fresh_world n m p s; outcome = Going })
+    (record { world = fresh_world n m p s; outcome = (Ok None) })
     (refused s refusal.Size)

@@ -1,7 +1,7 @@
 -- What each way of writing a node does to each field of each node: same place, other place.
 use Rattle.std.proofs.Math.Path.{◌≡◌, refl, ap, ap₂}
 use Rattle.std.proofs.Common.{sym, ◌∙◌, subst}
-use Rattle.std.specs.Prelude.{◌≢◌, List, Bool, ℕ, ◌≤◌, ◌<◌, length}
+use Rattle.std.specs.Prelude.{◌≢◌, List, Bool, ℕ, ◌≤◌, ◌<◌, length, Option, None, Some}
 use Rattle.std.proofs.Math.Bool.{true, false}
 use native.Mathlib.Omega.{arith}
 use Rattle.std.proofs.Math.Decide.{ℕ_discrete}
@@ -11,8 +11,6 @@ use Rattle.shapes.specs.declared.NodeNo.{NodeNo}
 use Rattle.shapes.specs.declared.Rank.{Rank}
 use Rattle.shapes.specs.declared.Update.{Update}
 use Rattle.shapes.specs.declared.Phase.{Phase}
-use Rattle.shapes.specs.declared.MaybeNode.{MaybeNode}
-use Rattle.shapes.specs.declared.MaybeNode.TheVariants.{Absent, At}
 use Rattle.tables.specs.Names.{node, record_no, update, fresh_word}
 use Rattle.tables.specs.Rows.{word, HasRows, rows-put, word-put_same, word-put-row, word-put_field, rows-put_row, word-put_row_same, word-put_row_other}
 use Rattle.tables.specs.Nodes.{node_width, node_word, kind_at, rank_at, phase_at, prev_at, side, child_at, update_at, set_child, set_update, new_row, new_node}
@@ -22,7 +20,7 @@ pub record Fixed : Type 0 where
   pub kind : ℕ
   pub rank : Rank
   pub phase : ℕ
-  pub prev : MaybeNode
+  pub prev : Option NodeNo
 
 unfoldable pub fixed_at : List ℕ → NodeNo → Fixed
 fixed_at ns x = record { kind = kind_at ns x; rank = rank_at ns x; phase = (phase_at ns x).0; prev = prev_at ns x }
@@ -140,12 +138,12 @@ update-set_update_case Q ns x u rows r h y set old = elim (ℕ_discrete y.0 x.0)
 
 -- ---- a new node
 
-pub row-length : (kind : ℕ) (k : Rank) (q : Phase) (prev : MaybeNode) (left right : NodeNo) → length (new_row kind k q prev left right) ≡ node_width
+pub row-length : (kind : ℕ) (k : Rank) (q : Phase) (prev : Option NodeNo) (left right : NodeNo) → length (new_row kind k q prev left right) ≡ node_width
 unfolding new_row
-row-length kind k q Absent left right = refl
-row-length kind k q (At x) left right = refl
+row-length kind k q None left right = refl
+row-length kind k q (Some x) left right = refl
 
-module _ (ns : List ℕ) (x : NodeNo) (kind : ℕ) (k : Rank) (q : Phase) (prev : MaybeNode) (left right : NodeNo) where
+module _ (ns : List ℕ) (x : NodeNo) (kind : ℕ) (k : Rank) (q : Phase) (prev : Option NodeNo) (left right : NodeNo) where
   pub rows-new_node : (rows : ℕ) → HasRows node_width ns rows → HasRows node_width (new_node ns x kind k q prev left right) rows
   unfolding new_node
   rows-new_node rows h = rows-put_row node_width ns _ x.0 rows h
@@ -172,34 +170,34 @@ module _ (ns : List ℕ) (x : NodeNo) (kind : ℕ) (k : Rank) (q : Phase) (prev 
     unfolding fixed_at kind_at rank_at phase_at prev_at
     fixed_new_node_same = simp (word-new_node_same 0 (omega arith), word-new_node_same 1 (omega arith), word-new_node_same 2 (omega arith), word-new_node_same 3 (omega arith), word-new_node_same 4 (omega arith), word-new_node_same 5 (omega arith)) (shown prev)
       where
-        shown : (m : MaybeNode) → ◌≡◌ {A = Fixed} (record { kind = get_or (new_row kind k q m left right) 0 0; rank = record { class = get_or (new_row kind k q m left right) 1 0; word = get_or (new_row kind k q m left right) 2 0 }; phase = get_or (new_row kind k q m left right) 3 0; prev = pick (lib.Dec.eqb (get_or (new_row kind k q m left right) 4 0) 0) Absent (At (node (get_or (new_row kind k q m left right) 5 0))) }) (record { kind = kind; rank = k; phase = q.0; prev = m })
-        shown Absent = unfold new_row pick in refl
-        shown (At y) = unfold new_row pick in refl
+        shown : (m : Option NodeNo) → ◌≡◌ {A = Fixed} (record { kind = get_or (new_row kind k q m left right) 0 0; rank = record { class = get_or (new_row kind k q m left right) 1 0; word = get_or (new_row kind k q m left right) 2 0 }; phase = get_or (new_row kind k q m left right) 3 0; prev = pick (lib.Dec.eqb (get_or (new_row kind k q m left right) 4 0) 0) None (Some (node (get_or (new_row kind k q m left right) 5 0))) }) (record { kind = kind; rank = k; phase = q.0; prev = m })
+        shown None = unfold new_row pick in refl
+        shown (Some y) = unfold new_row pick in refl
 
     pub child_new_node-left : child_at (new_node ns x kind k q prev left right) x true ≡ left
     unfolding child_at side
     child_new_node-left = ap node (word-new_node_same 6 (omega arith) ∙ shown prev)
       where
-        shown : (m : MaybeNode) → get_or (new_row kind k q m left right) 6 0 ≡ left.0
-        shown Absent = unfold new_row in refl
-        shown (At y) = unfold new_row in refl
+        shown : (m : Option NodeNo) → get_or (new_row kind k q m left right) 6 0 ≡ left.0
+        shown None = unfold new_row in refl
+        shown (Some y) = unfold new_row in refl
 
     pub child_new_node_right : child_at (new_node ns x kind k q prev left right) x false ≡ right
     unfolding child_at side
     child_new_node_right = ap node (word-new_node_same 7 (omega arith) ∙ shown prev)
       where
-        shown : (m : MaybeNode) → get_or (new_row kind k q m left right) 7 0 ≡ right.0
-        shown Absent = unfold new_row in refl
-        shown (At y) = unfold new_row in refl
+        shown : (m : Option NodeNo) → get_or (new_row kind k q m left right) 7 0 ≡ right.0
+        shown None = unfold new_row in refl
+        shown (Some y) = unfold new_row in refl
 
     pub update-new_node_same : update_at (new_node ns x kind k q prev left right) x ≡ fresh_word
     unfolding update_at
     update-new_node_same = ap₂ (λ a b. update a (record_no b)) (word-new_node_same 8 (omega arith) ∙ shown prev) (word-new_node_same 9 (omega arith) ∙ shown' prev)
       where
-        shown : (m : MaybeNode) → get_or (new_row kind k q m left right) 8 0 ≡ 0
-        shown Absent = unfold new_row in refl
-        shown (At y) = unfold new_row in refl
+        shown : (m : Option NodeNo) → get_or (new_row kind k q m left right) 8 0 ≡ 0
+        shown None = unfold new_row in refl
+        shown (Some y) = unfold new_row in refl
 
-        shown' : (m : MaybeNode) → get_or (new_row kind k q m left right) 9 0 ≡ 0
-        shown' Absent = unfold new_row in refl
-        shown' (At y) = unfold new_row in refl
+        shown' : (m : Option NodeNo) → get_or (new_row kind k q m left right) 9 0 ≡ 0
+        shown' None = unfold new_row in refl
+        shown' (Some y) = unfold new_row in refl

@@ -1,12 +1,10 @@
 -- A node's row: its fields, read and written by name.
-use Rattle.std.specs.Prelude.{ℕ, List, [], ◌∷◌, Bool, true, false, eqb}
+use Rattle.std.specs.Prelude.{ℕ, List, [], ◌∷◌, Bool, true, false, eqb, Option, None, Some}
 use Rattle.laws.specs.Choice.{pick}
 use Rattle.shapes.specs.declared.NodeNo.{NodeNo}
 use Rattle.shapes.specs.declared.Rank.{Rank}
 use Rattle.shapes.specs.declared.Update.{Update}
 use Rattle.shapes.specs.declared.Phase.{Phase}
-use Rattle.shapes.specs.declared.MaybeNode.{MaybeNode}
-use Rattle.shapes.specs.declared.MaybeNode.TheVariants.{Absent, At}
 use Rattle.tables.specs.Rows.{word, put_word, put_row}
 use Rattle.tables.specs.Names.{node, record_no, phase, update, value}
 
@@ -32,8 +30,8 @@ key_at ns x = value (rank_at ns x)
 unfoldable pub phase_at : List ℕ → NodeNo → Phase
 phase_at ns x = phase (node_word ns x 3)
 
-unfoldable pub prev_at : List ℕ → NodeNo → MaybeNode
-prev_at ns x = pick (eqb (node_word ns x 4) 0) Absent (At (node (node_word ns x 5)))
+unfoldable pub prev_at : List ℕ → NodeNo → Option NodeNo
+prev_at ns x = pick (eqb (node_word ns x 4) 0) None (Some (node (node_word ns x 5)))
 
 -- the field of a child
 unfoldable pub side : Bool → ℕ
@@ -56,9 +54,9 @@ unfoldable pub set_update : List ℕ → NodeNo → Update → List ℕ
 set_update ns x u = put_word node_width (put_word node_width ns x.0 8 u.mark) x.0 9 u.info.0
 
 -- a new node: no leaf has children; the update word is (FLAG, dummy)
-unfoldable pub new_row : ℕ → Rank → Phase → MaybeNode → NodeNo → NodeNo → List ℕ
-new_row kind k q Absent left right = kind ∷ k.class ∷ k.word ∷ q.0 ∷ 0 ∷ 0 ∷ left.0 ∷ right.0 ∷ 0 ∷ 0 ∷ []
-new_row kind k q (At prev) left right = kind ∷ k.class ∷ k.word ∷ q.0 ∷ 1 ∷ prev.0 ∷ left.0 ∷ right.0 ∷ 0 ∷ 0 ∷ []
+unfoldable pub new_row : ℕ → Rank → Phase → Option NodeNo → NodeNo → NodeNo → List ℕ
+new_row kind k q None left right = kind ∷ k.class ∷ k.word ∷ q.0 ∷ 0 ∷ 0 ∷ left.0 ∷ right.0 ∷ 0 ∷ 0 ∷ []
+new_row kind k q (Some prev) left right = kind ∷ k.class ∷ k.word ∷ q.0 ∷ 1 ∷ prev.0 ∷ left.0 ∷ right.0 ∷ 0 ∷ 0 ∷ []
 
-unfoldable pub new_node : List ℕ → NodeNo → ℕ → Rank → Phase → MaybeNode → NodeNo → NodeNo → List ℕ
+unfoldable pub new_node : List ℕ → NodeNo → ℕ → Rank → Phase → Option NodeNo → NodeNo → NodeNo → List ℕ
 new_node ns x kind k q prev left right = put_row node_width ns x.0 (new_row kind k q prev left right)

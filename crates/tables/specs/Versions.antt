@@ -1,23 +1,21 @@
 -- READCHILD (lines 43 to 48): a node's child as a phase sees it.
-use Rattle.std.specs.Prelude.{ℕ, zero, suc, List, Bool, leb}
+use Rattle.std.specs.Prelude.{ℕ, zero, suc, List, Bool, leb, Option, None, Some}
 use Rattle.laws.specs.Choice.{pick}
 use Rattle.shapes.specs.declared.NodeNo.{NodeNo}
 use Rattle.shapes.specs.declared.Phase.{Phase}
-use Rattle.shapes.specs.declared.MaybeNode.{MaybeNode}
-use Rattle.shapes.specs.declared.MaybeNode.TheVariants.{Absent, At}
 use Rattle.tables.specs.Nodes.{is_internal, phase_at, prev_at, child_at}
 
 -- lines 46 and 47: along prev to the first node of a phase no later than seq, in at most so many steps; absent at the end of prev
-unfoldable pub walk_back : ℕ → List ℕ → Phase → MaybeNode → MaybeNode
-walk_back zero ns seq x = Absent
-walk_back (suc k) ns seq Absent = Absent
-walk_back (suc k) ns seq (At x) = let further = walk_back k ns seq (prev_at ns x) in pick (leb (phase_at ns x).0 seq.0) (At x) further
+unfoldable pub walk_back : ℕ → List ℕ → Phase → Option NodeNo → Option NodeNo
+walk_back zero ns seq x = None
+walk_back (suc k) ns seq None = None
+walk_back (suc k) ns seq (Some x) = let further = walk_back k ns seq (prev_at ns x) in pick (leb (phase_at ns x).0 seq.0) (Some x) further
 
 -- prev is a smaller number in sound tables, so as many steps as nodes are used are enough
-unfoldable pub read_child : ℕ → List ℕ → NodeNo → Bool → Phase → MaybeNode
-read_child used ns x left seq = walk_back used ns seq (At (child_at ns x left))
+unfoldable pub read_child : ℕ → List ℕ → NodeNo → Bool → Phase → Option NodeNo
+read_child used ns x left seq = walk_back used ns seq (Some (child_at ns x left))
 
 -- a node that may be used as a parent: it is there, and internal
-unfoldable pub as_parent : List ℕ → MaybeNode → MaybeNode
-as_parent ns Absent = Absent
-as_parent ns (At x) = pick (is_internal ns x) (At x) Absent
+unfoldable pub as_parent : List ℕ → Option NodeNo → Option NodeNo
+as_parent ns None = None
+as_parent ns (Some x) = pick (is_internal ns x) (Some x) None

@@ -1,12 +1,10 @@
 -- All that is lent and kept.
-use Rattle.std.specs.Prelude.{ℕ, ◌+◌, ◌*◌, List, get_or, ℤ}
+use Rattle.std.specs.Prelude.{ℕ, ◌+◌, ◌*◌, List, get_or, ℤ, None}
 use Rattle.shapes.specs.declared.NodeNo.{NodeNo}
 use Rattle.shapes.specs.declared.Totals.{Totals}
 use Rattle.shapes.specs.declared.Board.{Board}
 use Rattle.shapes.specs.declared.Locals.{Locals}
 use Rattle.shapes.specs.declared.Worker.{Worker}
-use Rattle.shapes.specs.declared.MaybeNode.TheVariants.{Absent}
-use Rattle.shapes.specs.declared.Condition.TheVariants.{Idle}
 use Rattle.tables.specs.Names.{node, phase, root, dummy, fresh_word}
 
 -- what the workers share
@@ -36,10 +34,10 @@ tables_of s = tables s.board.totals s.nodes s.records
 
 -- nothing in hand
 abbrev pub blank : Locals
-blank = record { seq = phase 0; gp = Absent; p = root; l = root; gpup = fresh_word; pup = fresh_word; lup = fresh_word; sup = fresh_word; up = fresh_word; sibling = root; made = root; info = dummy; i = 0 }
+blank = record { seq = phase 0; gp = None; p = root; l = root; gpup = fresh_word; pup = fresh_word; lup = fresh_word; sup = fresh_word; up = fresh_word; sibling = root; made = root; info = dummy; i = 0 }
 
 abbrev pub idle : Worker
-idle = record { condition = Idle; hand = blank; pending = 0; found = 0 }
+idle = record { operation = None; hand = blank; pending = 0; found = 0 }
 
 unfoldable pub worker_at : World → ℕ → Worker
 worker_at s w = get_or s.board.workers w idle

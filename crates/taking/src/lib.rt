@@ -4,10 +4,7 @@
 ghost use Rattle.std.specs.Prelude.{◌≡◌};
 ghost use Rattle.steps.specs.Attempt.{room, take_three, take_copy, copy_word};
 
-use shapes::{
-    Answer, Decision, Effect, Key, Link, LinkStep, Locals, MaybeNode, NodeNo, Place, RecordNo,
-    Totals,
-};
+use shapes::{Answer, Decision, Effect, Key, Link, LinkStep, Locals, NodeNo, Place, RecordNo, Totals};
 use tables::{DELETE_TAKES, INSERT_TAKES};
 
 // Totals may be any numbers, so the sums are made in 64 bits.
@@ -60,11 +57,11 @@ pub fn copy_word(nodes: &[u32], v: Locals, left: bool) -> Decision
 {
     let sibling = v.sibling;
     let made = v.made;
-    let MaybeNode::At(s) = fields::as_parent(nodes, MaybeNode::At(sibling)) else {
-        return Decision::Crooked;
+    let Some(s) = fields::as_parent(nodes, Some(sibling)) else {
+        return None;
     };
-    let MaybeNode::At(copy) = fields::as_parent(nodes, MaybeNode::At(made)) else {
-        return Decision::Crooked;
+    let Some(copy) = fields::as_parent(nodes, Some(made)) else {
+        return None;
     };
     let effect = Effect::CopyChild(copy, left, fields::child_at(nodes, s, left));
     if left {

@@ -1,5 +1,5 @@
 -- Turn counts are exact: no schedule has commands enough to come to the greatest count that is kept.
-use Rattle.std.specs.Prelude.{ℕ, zero, suc, ◌+◌, ◌*◌, ◌≤◌, ◌≡◌, refl, List, length, get_or, set, drop, replicate}
+use Rattle.std.specs.Prelude.{ℕ, zero, suc, ◌+◌, ◌*◌, ◌≤◌, ◌≡◌, refl, List, length, get_or, set, drop, replicate, None, Some, Ok, Err}
 use Rattle.std.proofs.Common.{arith, le-leb}
 use Rattle.laws.specs.Choice.{pick_true}
 use Rattle.laws.specs.Parts.{below_head, below_tail}
@@ -10,8 +10,7 @@ use Rattle.schedule.specs.Reading.{opening_at, command_at}
 use Rattle.schedule.specs.Openings.{opening_opens}
 use Rattle.schedule.proofs.Standing.{command_stands}
 use Rattle.shapes.specs.Numbers.{most_p}
-use Rattle.shapes.specs.declared.Outcome.{Outcome}
-use Rattle.shapes.specs.declared.Outcome.TheVariants as outcome
+use Rattle.shapes.specs.Outcomes.{Outcome}
 use Rattle.tables.specs.World.{World}
 use Rattle.tables.specs.Fresh.{Left}
 use Rattle.steps.specs.Turn.{turn_of, goes_on, run_by, run_from, run_of, Ran}
@@ -28,9 +27,9 @@ use Rattle.tally.specs.Whole.{fresh_evening, going, play_from, begins, printed_b
 
 goes_on_few : (o : Outcome) (s : World) (n k : ℕ) (rest : Ran) → rest.turns ≤ suc n + k → (goes_on o s n rest).turns ≤ n + suc k
 unfolding goes_on
-goes_on_few outcome.Going s n k rest h = omega (arith, h)
-goes_on_few (outcome.Said a) s n k rest h = omega arith
-goes_on_few (outcome.Refused r) s n k rest h = omega arith
+goes_on_few (Ok None) s n k rest h = omega (arith, h)
+goes_on_few (Ok (Some a)) s n k rest h = omega arith
+goes_on_few (Err r) s n k rest h = omega arith
 
 runs_few : (k n w : ℕ) (s : World) → (run_from k n w s).turns ≤ n + k
 unfolding run_by
@@ -52,9 +51,9 @@ set-at_most b w x counts h le = λ v. at_set (λ (y : ℕ). y ≤ b) counts w v 
 
 started-at_most : (b w : ℕ) (o : Outcome) (counts : List ℕ) → AtMost b counts → AtMost b (started_counts o w counts)
 unfolding started_counts
-started-at_most b w outcome.Going counts h = set-at_most b w 0 counts h (omega arith)
-started-at_most b w (outcome.Said a) counts h = h
-started-at_most b w (outcome.Refused r) counts h = h
+started-at_most b w (Ok None) counts h = set-at_most b w 0 counts h (omega arith)
+started-at_most b w (Ok (Some a)) counts h = h
+started-at_most b w (Err r) counts h = h
 
 -- the greatest n of a command
 abbrev pub most_asked : ℕ

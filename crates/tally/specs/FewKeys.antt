@@ -1,5 +1,5 @@
 -- No decision answers with more keys than a line has places: a scan adds one only where its list has room.
-use Rattle.std.specs.Prelude.{ℕ, ◌+◌, ◌≤◌, ◌≡◌, Bool}
+use Rattle.std.specs.Prelude.{ℕ, ◌+◌, ◌≤◌, ◌≡◌, Bool, Option, None, Some}
 use Rattle.std.proofs.Math.Bool.{true}
 use Rattle.std.proofs.Common.{arith}
 use Rattle.std.proofs.Math.Dec.{ltb}
@@ -9,8 +9,6 @@ use Rattle.shapes.specs.Numbers.{most_n}
 use Rattle.shapes.specs.declared.NodeNo.{NodeNo}
 use Rattle.shapes.specs.declared.Key.{Key}
 use Rattle.shapes.specs.declared.Locals.{Locals}
-use Rattle.shapes.specs.declared.MaybeNode.{MaybeNode}
-use Rattle.shapes.specs.declared.MaybeNode.TheVariants.{Absent, At}
 use Rattle.shapes.specs.declared.Kind.{Kind}
 use Rattle.shapes.specs.declared.Kind.TheVariants as kind
 use Rattle.shapes.specs.declared.Place.{Place}
@@ -30,8 +28,7 @@ use Rattle.shapes.specs.declared.Answer.{Answer}
 use Rattle.shapes.specs.declared.Answer.TheVariants.{Yes, No, Keys, NoRoom, NoPhase}
 use Rattle.shapes.specs.declared.Next.{Next}
 use Rattle.shapes.specs.declared.Next.TheVariants as next
-use Rattle.shapes.specs.declared.Decision.{Decision}
-use Rattle.shapes.specs.declared.Decision.TheVariants as decision
+use Rattle.shapes.specs.Outcomes.{Decision}
 use Rattle.tables.specs.World.{Tables}
 use Rattle.steps.specs.Hand.{through}
 use Rattle.steps.specs.Search.{landed, search39}
@@ -56,15 +53,15 @@ FewNext (next.At q) = Unit {0}
 FewNext (next.Answers a) = Few a
 
 abbrev pub FewDecision : Decision → Type 0
-FewDecision decision.Crooked = Unit {0}
-FewDecision (decision.Go d) = FewNext d.next
+FewDecision None = Unit {0}
+FewDecision (Some d) = FewNext d.next
 
 -- ---- decisions
 
 either : (b : Bool) (x y : Decision) → FewDecision x → FewDecision y → FewDecision (pick b x y)
 either b x y p q = fork FewDecision b (λ _. p) (λ _. q)
 
-with-node : (m : MaybeNode) (g : NodeNo → Decision) → ((x : NodeNo) → FewDecision (g x)) → FewDecision (through m g)
+with-node : (m : Option NodeNo) (g : NodeNo → Decision) → ((x : NodeNo) → FewDecision (g x)) → FewDecision (through m g)
 with-node = through_each FewDecision tt
 
 module _ (s : Tables) (v : Locals) where
@@ -74,21 +71,21 @@ module _ (s : Tables) (v : Locals) where
   validated_few kind.Insert k = either _ _ _ tt (either _ _ _ tt tt)
   validated_few kind.Delete k = either _ _ _ (reaches v.gp) tt
     where
-      reaches : (m : MaybeNode) → FewDecision (reaches182 v m)
-      reaches Absent = unfold reaches182 in tt
-      reaches (At gp) = unfold reaches182 in either _ _ _ tt tt
+      reaches : (m : Option NodeNo) → FewDecision (reaches182 v m)
+      reaches None = unfold reaches182 in tt
+      reaches (Some gp) = unfold reaches182 in either _ _ _ tt tt
 
-  link_few : (a : Link) (m : LinkMove) → FewDecision (link_next s.totals s.nodes v a m)
+  link_few : (a : Link) (m : Option LinkMove) → FewDecision (link_next s.totals s.nodes v a m)
   unfolding link_next held take_copy
-  link_few a link.Crooked = tt
-  link_few a (link.Goes b u) = tt
-  link_few a (link.Helps r) = tt
-  link_few a link.Fails = tt
-  link_few Leaf64 link.Holds = tt
-  link_few Parent65 link.Holds = tt
-  link_few Sibling183 link.Holds = either _ _ _ tt tt
-  link_few Left187 link.Holds = tt
-  link_few Right188 link.Holds = tt
+  link_few a None = tt
+  link_few a (Some (link.Goes b u)) = tt
+  link_few a (Some (link.Helps r)) = tt
+  link_few a (Some link.Fails) = tt
+  link_few Leaf64 (Some link.Holds) = tt
+  link_few Parent65 (Some link.Holds) = tt
+  link_few Sibling183 (Some link.Holds) = either _ _ _ tt tt
+  link_few Left187 (Some link.Holds) = tt
+  link_few Right188 (Some link.Holds) = tt
 
   fills_few : (o : Kind) → FewDecision (fills s.nodes o v)
   unfolding fills fill_insert fill_delete
@@ -96,13 +93,13 @@ module _ (s : Tables) (v : Locals) where
   fills_few kind.Delete = with-node _ _ (λ g. with-node _ _ (λ p. either _ _ _ tt tt))
   fills_few kind.Find = tt
 
-  help_few : (b : Back) (m : HelpMove) → FewDecision (help_next b v m)
+  help_few : (b : Back) (m : Option HelpMove) → FewDecision (help_next b v m)
   unfolding help_next back_to
-  help_few b help.Crooked = tt
-  help_few b (help.Goes e i q) = tt
-  help_few Own (help.Done done) = either _ _ _ tt tt
-  help_few Again (help.Done done) = tt
-  help_few Node (help.Done done) = tt
+  help_few b None = tt
+  help_few b (Some (help.Goes e i q)) = tt
+  help_few Own (Some (help.Done done)) = either _ _ _ tt tt
+  help_few Again (Some (help.Done done)) = tt
+  help_few Node (Some (help.Done done)) = tt
 
   -- an attempt counts no keys
   attempt_few : (o : Kind) (k : Key) (q : Place) → FewDecision (attempt s o k v q)

@@ -1,18 +1,14 @@
 -- No key is lost: a line lists all the keys that its answer counts.
-use Rattle.std.specs.Prelude.{ℕ, zero, suc, ◌≤◌, ◌<◌, ◌≡◌, ltb}
+use Rattle.std.specs.Prelude.{ℕ, zero, suc, ◌≤◌, ◌<◌, ◌≡◌, ltb, Option, None, Some, Ok, Err}
 use Rattle.std.proofs.Common.{subst, arith, ltb-true}
 use Rattle.laws.specs.Choice.{fork}
 use Rattle.shapes.specs.Numbers.{most_n}
 use Rattle.shapes.specs.declared.Operation.{Operation}
-use Rattle.shapes.specs.declared.Condition.{Condition}
-use Rattle.shapes.specs.declared.Condition.TheVariants.{Idle, Busy}
 use Rattle.shapes.specs.declared.Answer.TheVariants.{Keys}
 use Rattle.shapes.specs.declared.Next.{Next}
 use Rattle.shapes.specs.declared.Next.TheVariants as next
-use Rattle.shapes.specs.declared.Decision.{Decision}
-use Rattle.shapes.specs.declared.Decision.TheVariants as decision
-use Rattle.shapes.specs.declared.Outcome.{Outcome}
-use Rattle.shapes.specs.declared.Outcome.TheVariants as outcome
+use Rattle.shapes.specs.Outcomes.{Decision}
+use Rattle.shapes.specs.Outcomes.{Outcome}
 use Rattle.tables.specs.World.{World, totals_of, tables_of, worker_at}
 use Rattle.tables.specs.Fresh.{Left}
 use Rattle.sound.specs.Sound.{sound_of}
@@ -28,9 +24,9 @@ use Rattle.tally.specs.Playing.{Evening, line_of, begun, ran, play_by}
 use Rattle.tally.specs.FewKeys.{Few, FewNext, FewDecision, decide_few}
 
 abbrev FewOutcome : Outcome → Type 0
-FewOutcome outcome.Going = Unit {0}
-FewOutcome (outcome.Said a) = Few a
-FewOutcome (outcome.Refused r) = Unit {0}
+FewOutcome (Ok None) = Unit {0}
+FewOutcome (Ok (Some a)) = Few a
+FewOutcome (Err r) = Unit {0}
 
 abbrev FewLine : Line → Type 0
 FewLine Quiet = Unit {0}
@@ -43,28 +39,28 @@ FewLine (Bad number) = Unit {0}
 
 settle_few : (s : World) (w : ℕ) (o : Operation) (d : Decision) → FewDecision d → FewOutcome (settle s w (worker_at s w) o d).outcome
 unfolding settle outcome_of
-settle_few s w o decision.Crooked h = tt
-settle_few s w o (decision.Go d) h = by d.next h
+settle_few s w o None h = tt
+settle_few s w o (Some d) h = by d.next h
   where
     by : (q : Next) → FewNext q → FewOutcome (outcome_of q)
     by (next.At q) h = tt
     by (next.Answers a) h = h
 
 module _ (s : World) (w : ℕ) where
-  on_few : Sound s → w < (totals_of s).p → (c : Condition) → FewOutcome (step_on s w (worker_at s w) c).outcome
+  on_few : Sound s → w < (totals_of s).p → (c : Option Operation) → FewOutcome (step_on s w (worker_at s w) c).outcome
   unfolding step_on lists_of
-  on_few h l Idle = tt
-  on_few h l (Busy o) = settle_few s w o _ (decide_few (tables_of s) (worker_at s w).hand (lists_of s w (worker_at s w)) (h.workers w l).most_found h.sizes.n_at_most o)
+  on_few h l None = tt
+  on_few h l (Some o) = settle_few s w o _ (decide_few (tables_of s) (worker_at s w).hand (lists_of s w (worker_at s w)) (h.workers w l).most_found h.sizes.n_at_most o)
 
   turn_few : FewOutcome (turn_of s w).outcome
   unfolding turn_of step_of
   turn_few =
       fork (λ (d : Left). FewOutcome d.outcome) (sound_of s)
-      (λ t. fork (λ (d : Left). FewOutcome d.outcome) (ltb w (totals_of s).p) (λ l. on_few ((says-sound s).out t) (ltb-true _ _ l) (worker_at s w).condition) (λ l. tt))
+      (λ t. fork (λ (d : Left). FewOutcome d.outcome) (ltb w (totals_of s).p) (λ l. on_few ((says-sound s).out t) (ltb-true _ _ l) (worker_at s w).operation) (λ l. tt))
       (λ t. tt)
 
   -- an answer's keys have places in a line
-  pub few_keys : (n : ℕ) → (turn_of s w).outcome ≡ outcome.Said (Keys n) → n ≤ most_n
+  pub few_keys : (n : ℕ) → (turn_of s w).outcome ≡ Ok (Some (Keys n)) → n ≤ most_n
   few_keys n e = subst FewOutcome e turn_few
 
   -- a start answers nothing
@@ -72,18 +68,18 @@ module _ (s : World) (w : ℕ) where
   unfolding start_of
   start_few o =
       fork (λ (d : Left). FewOutcome d.outcome) (sound_of s)
-      (λ t. fork (λ (d : Left). FewOutcome d.outcome) (ltb w (totals_of s).p) (λ l. by (worker_at s w).condition) (λ l. tt))
+      (λ t. fork (λ (d : Left). FewOutcome d.outcome) (ltb w (totals_of s).p) (λ l. by (worker_at s w).operation) (λ l. tt))
       (λ t. tt)
     where
-      by : (c : Condition) → FewOutcome (begin s w (worker_at s w) o c).outcome
-      by Idle = unfold begin in tt
-      by (Busy old) = unfold begin in tt
+      by : (c : Option Operation) → FewOutcome (begin s w (worker_at s w) o c).outcome
+      by None = unfold begin in tt
+      by (Some old) = unfold begin in tt
 
 goes_on_few_keys : (o : Outcome) (s : World) (n : ℕ) (rest : Ran) → FewOutcome o → FewOutcome rest.outcome → FewOutcome (goes_on o s n rest).outcome
 unfolding goes_on
-goes_on_few_keys outcome.Going s n rest h more = more
-goes_on_few_keys (outcome.Said a) s n rest h more = h
-goes_on_few_keys (outcome.Refused r) s n rest h more = tt
+goes_on_few_keys (Ok None) s n rest h more = more
+goes_on_few_keys (Ok (Some a)) s n rest h more = h
+goes_on_few_keys (Err r) s n rest h more = tt
 
 run_few_keys : (k n w : ℕ) (s : World) → FewOutcome (run_from k n w s).outcome
 unfolding run_by
@@ -94,9 +90,9 @@ run_few_keys (suc k) n w s = goes_on_few_keys (turn_of s w).outcome _ n _ (turn_
 
 line_few : (number w turns : ℕ) (o : Outcome) → FewOutcome o → FewLine (line_of number w o turns)
 unfolding line_of
-line_few number w turns outcome.Going h = tt
-line_few number w turns (outcome.Said a) h = h
-line_few number w turns (outcome.Refused r) h = tt
+line_few number w turns (Ok None) h = tt
+line_few number w turns (Ok (Some a)) h = h
+line_few number w turns (Err r) h = tt
 
 play_few : (add : ℕ → ℕ → ℕ) (number : ℕ) (c : Command) (e : Evening) → FewLine (play_by add number c e).line
 unfolding play_by begun ran insert_of delete_of find_of scan_of run_of

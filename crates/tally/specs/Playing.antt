@@ -1,9 +1,8 @@
 -- 01, 'The schedule': what each command does to the tables and to the turn counts, and the line that it prints.
-use Rattle.std.specs.Prelude.{ℕ, ◌+◌, ◌-◌, ◌^◌, List, get_or, set, ℤ, leb}
+use Rattle.std.specs.Prelude.{ℕ, ◌+◌, ◌-◌, ◌^◌, List, get_or, set, ℤ, leb, None, Some, Ok, Err}
 use Rattle.laws.specs.Choice.{pick}
 use Rattle.shapes.specs.declared.Board.{Board}
-use Rattle.shapes.specs.declared.Outcome.{Outcome}
-use Rattle.shapes.specs.declared.Outcome.TheVariants as outcome
+use Rattle.shapes.specs.Outcomes.{Outcome}
 use Rattle.tables.specs.Names.{key_of}
 use Rattle.tables.specs.World.{World}
 use Rattle.tables.specs.Fresh.{Left}
@@ -48,17 +47,17 @@ counted before more = pick (leb (before + more) most_turns) (before + more) most
 
 -- a start begins at 0; one that is refused changes nothing
 unfoldable pub started_counts : Outcome → ℕ → List ℕ → List ℕ
-started_counts outcome.Going w counts = set counts w 0
-started_counts (outcome.Said a) w counts = counts
-started_counts (outcome.Refused r) w counts = counts
+started_counts (Ok None) w counts = set counts w 0
+started_counts (Ok (Some a)) w counts = counts
+started_counts (Err r) w counts = counts
 
 -- ---- lines
 
 -- "one line per answer or refusal"
 unfoldable pub line_of : ℕ → ℕ → Outcome → ℕ → Line
-line_of number w outcome.Going turns = Quiet
-line_of number w (outcome.Said a) turns = Answered number w a turns
-line_of number w (outcome.Refused r) turns = Refused number w r
+line_of number w (Ok None) turns = Quiet
+line_of number w (Ok (Some a)) turns = Answered number w a turns
+line_of number w (Err r) turns = Refused number w r
 
 -- ---- commands
 

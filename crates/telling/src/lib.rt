@@ -13,9 +13,9 @@ fn line_of(number: u32, w: u32, outcome: Outcome, turns: u64) -> Line
     ensures { result ≡ line_of number w outcome turns }
 {
     match outcome {
-        Outcome::Going => Line::Quiet,
-        Outcome::Said(a) => Line::Answered(number, w, a, turns),
-        Outcome::Refused(why) => Line::Refused(number, w, why),
+        Ok(None) => Line::Quiet,
+        Ok(Some(a)) => Line::Answered(number, w, a, turns),
+        Err(why) => Line::Refused(number, w, why),
     }
 }
 

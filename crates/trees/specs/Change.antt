@@ -1,8 +1,7 @@
 -- What a change of one child does to the trees of a version: nothing where the new child is of a later phase, or is not met;
 -- else what is read from the new child stands in the place of what was read there before.
-use Rattle.std.specs.Prelude.{◌≡◌, refl, ◌⊎◌, Bool, true, false, ℕ, ◌<◌}
+use Rattle.std.specs.Prelude.{◌≡◌, refl, ◌⊎◌, Bool, true, false, ℕ, ◌<◌, Some}
 use Rattle.std.proofs.Common.{sym, ◌∙◌, inl, inr, true≢false}
-use Rattle.shapes.specs.declared.MaybeNode.TheVariants.{At}
 use Rattle.laws.specs.Changed.{change_on_case}
 use Rattle.trees.specs.Shape.{Shape, node, In, Once, Free}
 use Rattle.trees.specs.Grown.{Grown, unchanged, grown_as, node_grown}
@@ -11,7 +10,7 @@ use Rattle.trees.specs.Version.{Store, set_kid, node_no, Walk, here, back, Child
 module _ (S : Store) (d : Bool) (p new : ℕ) where
   -- the new child goes back to the child that was there
   abbrev pub Replaces : Type 0
-  Replaces = S.prev new ≡ At (node_no (S.kid d p))
+  Replaces = S.prev new ≡ Some (node_no (S.kid d p))
 
   pub walk-set : {i n m : ℕ} → Walk S i n m → Walk (set_kid S d p new) i n m
   walk-set (here h) = here h

@@ -1,7 +1,6 @@
 -- An insert and a delete on small trees: what the laws ask for is met there, and what they give is as drawn.
-use Rattle.std.specs.Prelude.{◌≡◌, refl, true, false, ◌||◌, not, ℕ, ◌<◌, eqb, ltb}
+use Rattle.std.specs.Prelude.{◌≡◌, refl, true, false, ◌||◌, not, ℕ, ◌<◌, eqb, ltb, None, Some}
 use Rattle.std.proofs.Common.{inl, inr, arith}
-use Rattle.shapes.specs.declared.MaybeNode.TheVariants.{Absent, At}
 use Rattle.laws.specs.Choice.{pick}
 use Rattle.laws.specs.Changed.{change, change_on}
 use Rattle.trees.specs.Shape.{tip, node, In}
@@ -14,7 +13,7 @@ use Rattle.trees.specs.Updates.{Insert, Delete, insert-fits}
 unfoldable planted : Store
 planted = record {
   phase = λ n. pick (ltb n 3) 0 1;
-  prev = λ n. pick (eqb n 3) (At (node_no 1)) Absent;
+  prev = λ n. pick (eqb n 3) (Some (node_no 1)) None;
   leaf = λ n. not (eqb n 0 || eqb n 3);
   kid = λ e n. pick e (pick (eqb n 0) 1 4) (pick (eqb n 0) 2 5);
 }
@@ -54,7 +53,7 @@ in_version_1 = tree_one (grown 1).tree
 unfoldable cut : Store
 cut = record {
   phase = λ n. pick (ltb n 7) 0 1;
-  prev = λ n. pick (eqb n 7) (At (node_no 1)) Absent;
+  prev = λ n. pick (eqb n 7) (Some (node_no 1)) None;
   leaf = λ n. not (ltb n 2 || (eqb n 4 || eqb n 7));
   kid = λ e n. pick e (pick (eqb n 0) 1 (pick (eqb n 1) 3 5)) (pick (eqb n 0) 2 (pick (eqb n 1) 4 6));
 }

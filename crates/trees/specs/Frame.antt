@@ -1,15 +1,14 @@
 -- A store that agrees with another on nodes that lead only to one another has the same trees from them.
-use Rattle.std.specs.Prelude.{◌≡◌, Bool, true, false, ℕ}
+use Rattle.std.specs.Prelude.{◌≡◌, Bool, true, false, ℕ, Some}
 use Rattle.std.proofs.Common.{sym, ◌∙◌, subst, inl, inr}
 use Rattle.shapes.specs.declared.NodeNo.{NodeNo}
-use Rattle.shapes.specs.declared.MaybeNode.TheVariants.{At}
 use Rattle.trees.specs.Shape.{Shape, In}
 use Rattle.trees.specs.Version.{Store, Walk, here, back, IsTree, leaf_t, node_t, tree_same}
 
 -- children of internal nodes and prevs stay within
 pub record Closed (S : Store) (U : ℕ → Type 0) : Type 0 where
   pub kid : (e : Bool) (n : ℕ) → U n → S.leaf n ≡ false → U (S.kid e n)
-  pub prev : (n : ℕ) (x : NodeNo) → U n → S.prev n ≡ At x → U x.0
+  pub prev : (n : ℕ) (x : NodeNo) → U n → S.prev n ≡ Some x → U x.0
 
 pub record Agree (S T : Store) (U : ℕ → Type 0) : Type 0 where
   pub phase : (n : ℕ) → U n → T.phase n ≡ S.phase n

@@ -1,17 +1,15 @@
 -- The version of a phase: children are reached by the walk along prev, and from a node they make a finite tree.
-use Rattle.std.specs.Prelude.{◌≡◌, refl, Bool, true, false, ℕ, ◌≤◌, ◌<◌}
+use Rattle.std.specs.Prelude.{◌≡◌, refl, Bool, true, false, ℕ, ◌≤◌, ◌<◌, Option, Some}
 use Rattle.std.proofs.Common.{sym, ap₂, ◌∙◌, inl, inr, true≢false, arith}
 use Rattle.std.proofs.Math.Decide.{dec_le}
 use Rattle.shapes.specs.declared.NodeNo.{NodeNo}
-use Rattle.shapes.specs.declared.MaybeNode.{MaybeNode}
-use Rattle.shapes.specs.declared.MaybeNode.TheVariants.{At}
 use Rattle.laws.specs.Changed.{change_on}
 use Rattle.trees.specs.Shape.{Shape, tip, node, In, Once}
 
 -- the nodes as the trees see them; kid true is the left child, kid false the right
 pub record Store : Type 0 where
   pub phase : ℕ → ℕ
-  pub prev : ℕ → MaybeNode
+  pub prev : ℕ → Option NodeNo
   pub leaf : ℕ → Bool
   pub kid : Bool → ℕ → ℕ
 
@@ -25,7 +23,7 @@ node_no n = record { 0 = n }
 -- READCHILD: from n along prev to the first node of phase i or earlier
 pub data Walk (S : Store) (i : ℕ) : ℕ → ℕ → Type 0 where
   here : {n : ℕ} → S.phase n ≤ i → Walk S i n n
-  back : {n m : ℕ} {x : NodeNo} → i < S.phase n → S.prev n ≡ At x → Walk S i x.0 m → Walk S i n m
+  back : {n m : ℕ} {x : NodeNo} → i < S.phase n → S.prev n ≡ Some x → Walk S i x.0 m → Walk S i n m
 
 -- c is the child of v in version i
 abbrev pub Child : Store → ℕ → Bool → ℕ → ℕ → Type 0

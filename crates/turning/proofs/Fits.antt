@@ -1,4 +1,5 @@
 -- What a turn asks: the totals are within the sizes, the worker's counts are small.
+use Rattle.std.specs.Prelude.{Option, Some}
 use Prim.Native.Nat.{ℕ, ◌<◌, ◌≤◌}
 use native.Mathlib.Omega.{arith}
 use mathlib.Core.Path.{◌≡◌, refl, ap₂}
@@ -8,13 +9,10 @@ use Rattle.shapes.specs.Numbers.{most_n}
 use Rattle.tables.specs.World.{World, tables_of}
 use Rattle.tables.specs.Fresh.{Left}
 use Rattle.shapes.specs.declared.Board.{Board}
-use Rattle.shapes.specs.declared.Outcome.{Outcome}
 use Rattle.shapes.specs.declared.Worker.{Worker}
 use Rattle.shapes.specs.declared.Operation.{Operation}
 use Rattle.shapes.specs.declared.Step.{Step}
-use Rattle.shapes.specs.declared.Condition.{Condition}
-use Rattle.shapes.specs.declared.Condition.TheVariants.{Busy}
-use Rattle.shapes.specs.declared.Decision.TheVariants.{Go}
+use Rattle.shapes.specs.Outcomes.{Outcome}
 use Rattle.steps.specs.Decide.{decide}
 use Rattle.steps.specs.Turn.{lists_of, settled, settle, outcome_of, step_on}
 use Rattle.effects.specs.Sizes.{WithinSizes}
@@ -34,6 +32,6 @@ pub left_same : {s t : World} {o p : Outcome} → s ≡ t → o ≡ p → ◌≡
 left_same e f = ap₂ (λ (s : World) (o : Outcome). record { world = s; outcome = o }) e f
 
 -- a busy worker whose decision goes on
-pub goes_on : (s : World) (w : ℕ) (k : Worker) (q : Condition) (o : Operation) (d : Step) → q ≡ Busy o → decide (tables_of s) (lists_of s w k) o k.hand ≡ Go d → step_on s w k q ≡ record { world = settled s w k o d; outcome = outcome_of d.next }
+pub goes_on : (s : World) (w : ℕ) (k : Worker) (q : Option Operation) (o : Operation) (d : Step) → q ≡ Some o → decide (tables_of s) (lists_of s w k) o k.hand ≡ Some d → step_on s w k q ≡ record { world = settled s w k o d; outcome = outcome_of d.next }
 unfolding step_on settle
 goes_on s w k q o d e f = rw (e, f) refl

@@ -5,7 +5,7 @@ ghost use Rattle.tables.specs.Names.{node};
 ghost use Rattle.tables.specs.World.{spot};
 ghost use Rattle.steps.specs.Turn.{pending_left, found_left, pushed, added};
 
-use shapes::{FoundChange, NodeNo, PendingChange, Totals};
+use shapes::{Key, NodeNo, PendingChange, Totals};
 
 // Three numbers of 32 bits, so no sum wraps.
 pub fn spot(totals: Totals, w: u32, i: u32) -> usize
@@ -38,13 +38,13 @@ pub fn pending_left(n: u32, change: PendingChange) -> u32
     }
 }
 
-pub fn found_left(n: u32, change: FoundChange) -> u32
+pub fn found_left(n: u32, change: Option<Key>) -> u32
     requires { n ≤ most_n }
     ensures { result ≡ found_left n change }
 {
     match change {
-        FoundChange::Keep => n,
-        FoundChange::Add(_) => n + 1,
+        None => n,
+        Some(_) => n + 1,
     }
 }
 
@@ -61,12 +61,12 @@ pub fn push(pending: &mut [u32], at: usize, change: PendingChange)
     }
 }
 
-pub fn add(found: &mut [i32], at: usize, change: FoundChange)
+pub fn add(found: &mut [i32], at: usize, change: Option<Key>)
     ensures { found.new ≡ added found.old at change }
 {
     match change {
-        FoundChange::Keep => {}
-        FoundChange::Add(k) => {
+        None => {}
+        Some(k) => {
             fields::put_key(found, at, fields::number_of(k));
         }
     }

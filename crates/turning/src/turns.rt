@@ -10,7 +10,7 @@ ghost use Rattle.turning.specs.Fits.{fits, step_within};
 use crate::lists::{add, push, spot, top};
 use crate::workers::{outcome_of, worker_next};
 use boards::{refuse, with_worker, worker_of};
-use shapes::{Board, Condition, Decision, Operation, Refusal, Reply, Step, Worker};
+use shapes::{Board, Operation, Refusal, Reply, Step, Worker};
 use tables::MOST_NODES;
 
 // What a turn adds to is small enough: the totals, and the counts of a worker that is one of P.
@@ -62,17 +62,17 @@ fn step_on(
     requires within_sizes { WithinSizes board.totals }
     requires pending_le_most_n { k.pending ≤ most_n }
     requires found_le_most_n { k.found ≤ most_n }
-    ensures { left result nodes.new records.new pending.new found.new ≡ step_on (world board nodes.old records.old pending.old found.old) w k k.condition }
+    ensures { left result nodes.new records.new pending.new found.new ≡ step_on (world board nodes.old records.old pending.old found.old) w k k.operation }
 {
-    let condition = k.condition;
+    let operation = k.operation;
     let totals = board.totals;
     let hand = k.hand;
-    let Condition::Busy(o) = condition else {
+    let Some(o) = operation else {
         return refuse(board, Refusal::Idle);
     };
     let last = top(totals, pending, w, k.pending);
     let decision = deciding::decide(totals, nodes, records, last, k.pending, k.found, o, hand);
-    let Decision::Go(d) = decision else {
+    let Some(d) = decision else {
         return refuse(board, Refusal::Crooked);
     };
     let next = d.next;

@@ -4,7 +4,7 @@ ghost use Rattle.shapes.specs.Numbers.{most_n};
 ghost use Rattle.steps.specs.Turn.{moved, worker_next, outcome_of};
 
 use crate::lists::{found_left, pending_left};
-use shapes::{Condition, Next, Operation, Outcome, Place, Step, Worker};
+use shapes::{Next, Operation, Outcome, Place, Step, Worker};
 
 fn moved(o: Operation, q: Place) -> Operation
     ensures { result ≡ moved o q }
@@ -31,16 +31,16 @@ pub fn worker_next(k: Worker, o: Operation, d: Step) -> Worker
     match next {
         Next::At(q) => {
             let pending = pending_left(k.pending, change);
-            let condition = Condition::Busy(moved(o, q));
+            let operation = Some(moved(o, q));
             Worker {
-                condition,
+                operation,
                 hand,
                 pending,
                 found,
             }
         }
         Next::Answers(_) => Worker {
-            condition: Condition::Idle,
+            operation: None,
             hand,
             pending: 0,
             found,
@@ -52,7 +52,7 @@ pub fn outcome_of(next: Next) -> Outcome
     ensures { result ≡ outcome_of next }
 {
     match next {
-        Next::At(_) => Outcome::Going,
-        Next::Answers(a) => Outcome::Said(a),
+        Next::At(_) => Ok(None),
+        Next::Answers(a) => Ok(Some(a)),
     }
 }

@@ -1,5 +1,5 @@
 -- What each effect does, as the view sees it.
-use Rattle.std.specs.Prelude.{ℕ, ◌+◌, ◌<◌, ◌≡◌, ◌≢◌, List, Bool}
+use Rattle.std.specs.Prelude.{ℕ, ◌+◌, ◌<◌, ◌≡◌, ◌≢◌, List, Bool, Option}
 use Rattle.std.proofs.Math.Path.{refl, sym, ap, fun_ext}
 use Rattle.std.proofs.Common.{◌∙◌}
 use Rattle.std.proofs.Math.Bool.{true, false, false≢true}
@@ -11,7 +11,6 @@ use Rattle.shapes.specs.declared.Rank.{Rank}
 use Rattle.shapes.specs.declared.Update.{Update}
 use Rattle.shapes.specs.declared.Filling.{Filling}
 use Rattle.shapes.specs.declared.Totals.{Totals}
-use Rattle.shapes.specs.declared.MaybeNode.{MaybeNode}
 use Rattle.tables.specs.Names.{node, record_no, fresh_word}
 use Rattle.tables.specs.Rows.{HasRows}
 use Rattle.tables.specs.Nodes.{node_width, child_at, set_child, set_update, new_node}
@@ -47,7 +46,7 @@ module _ (t : Totals) (ns rs : List ℕ) (rows : ℕ) (has : HasRows node_width 
       elsewhere true false n ne = child_set_child-side ns x c (node n)
       elsewhere false true n ne = child_set_child_side' ns x c (node n)
 
-  pub view-new_node : (x : NodeNo) (kind : ℕ) (k : Rank) (q : Phase) (prev : MaybeNode) (left right : NodeNo) → x.0 < rows → view (tables t (new_node ns x kind k q prev left right) rs) ≡ w_node (view (tables t ns rs)) x.0 (record { kind = kind; rank = k; phase = q.0; prev = prev }) left.0 right.0
+  pub view-new_node : (x : NodeNo) (kind : ℕ) (k : Rank) (q : Phase) (prev : Option NodeNo) (left right : NodeNo) → x.0 < rows → view (tables t (new_node ns x kind k q prev left right) rs) ≡ w_node (view (tables t ns rs)) x.0 (record { kind = kind; rank = k; phase = q.0; prev = prev }) left.0 right.0
   unfolding view
   view-new_node x kind k q prev left right l = view_is _ _
       (change_is _ _ x.0 fresh_word (update-new_node_same ns x kind k q prev left right rows has l) (λ n ne. update-new_node-node ns x kind k q prev left right (node n) ne))

@@ -6,7 +6,7 @@ ghost use Rattle.tables.specs.Rows.{word, put_word, put_row};
 ghost use Rattle.tables.specs.Nodes.{new_node};
 ghost use Rattle.tables.specs.Records.{new_record};
 
-use shapes::{Filling, MaybeNode, NodeNo, Phase, Rank, RecordNo};
+use shapes::{Filling, NodeNo, Phase, Rank, RecordNo};
 use tables::{NODE_WIDTH, RECORD_WIDTH};
 
 pub fn get(t: &[u32], at: usize) -> u32
@@ -66,18 +66,18 @@ pub fn new_node(
     kind: u32,
     k: Rank,
     q: Phase,
-    prev: MaybeNode,
+    prev: Option<NodeNo>,
     left: NodeNo,
     right: NodeNo,
 )
     ensures { ns.new ≡ new_node ns.old x kind k q prev left right }
 {
     match prev {
-        MaybeNode::Absent => {
+        None => {
             let row = [kind, k.class, k.word, q.0, 0, 0, left.0, right.0, 0, 0];
             put_row(ns, NODE_WIDTH, x.0, &row);
         }
-        MaybeNode::At(p) => {
+        Some(p) => {
             let row = [kind, k.class, k.word, q.0, 1, p.0, left.0, right.0, 0, 0];
             put_row(ns, NODE_WIDTH, x.0, &row);
         }

@@ -2,10 +2,10 @@
 use Rattle.tables.specs.Nodes.{new_node, new_row}
 use Rattle.words.proofs.new_node.Goals as goal
 
-pub returns-in-Absent : goal.returns-in-Absent
+pub returns-in-None : goal.returns-in-None
 unfolding new_node new_row
-returns-in-Absent c = rw c.in-Absent.is c.put_row.ensures
+returns-in-None c = rw c.in-None.is c.put_row.ensures
 
-pub returns-in-At : goal.returns-in-At
+pub returns-in-Some : goal.returns-in-Some
 unfolding new_node new_row
-returns-in-At c = rw c.in-At.is c.put_row-in-At.ensures
+returns-in-Some c = rw c.in-Some.is c.put_row-in-Some.ensures

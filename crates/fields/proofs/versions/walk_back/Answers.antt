@@ -16,7 +16,7 @@ pub loop-steps-smaller : goal.loop-steps-smaller
 loop-steps-smaller c = omega arith
 
 pub loop-steps-preserved : goal.loop-steps-preserved
-loop-steps-preserved c = rw (← c.prev_at.ensures, c.in-At.is) at (sym (goes _ _ c.loop-steps.x c.loop-steps.steps (omega arith) (rw c.phase_at-phase.ensures at c.if-phase-seq.false)) ∙ c.loop-steps.invariant)
+loop-steps-preserved c = rw (← c.prev_at.ensures, c.in-Some.is) at (sym (goes _ _ c.loop-steps.x c.loop-steps.steps (omega arith) (rw c.phase_at-phase.ensures at c.if-phase-seq.false)) ∙ c.loop-steps.invariant)
 
 pub returns : goal.returns
 returns c = sym (over _ _ _ c.loop-steps.steps (omega arith)) ∙ c.loop-steps.invariant

@@ -3,10 +3,10 @@ use mathlib.Core.Path.{refl}
 use Rattle.sound.specs.Sound.{prev_ok}
 use Rattle.rows.proofs.node_rows.prev_ok.Goals as goal
 
-pub returns-in-Absent : goal.returns-in-Absent
+pub returns-in-None : goal.returns-in-None
 unfolding prev_ok
-returns-in-Absent c = rw c.in-Absent.is refl
+returns-in-None c = rw c.in-None.is refl
 
-pub returns-in-At : goal.returns-in-At
+pub returns-in-Some : goal.returns-in-Some
 unfolding prev_ok
-returns-in-At c = rw c.in-At.is refl
+returns-in-Some c = rw c.in-Some.is refl

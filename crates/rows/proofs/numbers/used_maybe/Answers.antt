@@ -3,10 +3,10 @@ use mathlib.Core.Path.{refl}
 use Rattle.sound.specs.Sound.{used_maybe}
 use Rattle.rows.proofs.numbers.used_maybe.Goals as goal
 
-pub returns-in-Absent : goal.returns-in-Absent
+pub returns-in-None : goal.returns-in-None
 unfolding used_maybe
-returns-in-Absent c = rw c.in-Absent.is refl
+returns-in-None c = rw c.in-None.is refl
 
-pub returns-in-At : goal.returns-in-At
+pub returns-in-Some : goal.returns-in-Some
 unfolding used_maybe
-returns-in-At c = rw c.in-At.is c.used_node.ensures
+returns-in-Some c = rw c.in-Some.is c.used_node.ensures
