@@ -8,102 +8,72 @@ use shapes::{Answer, Decision, Key, Kind, Locals, NodeNo, Place, Totals};
 use tables::ROOT;
 
 // With gp absent, or p the Root so that gp has no word, line 182 is crooked.
+#[tactic(auto, unfolding(steps::specs::Attempt::reaches182, laws::specs::Choice::pick))]
 fn reaches182(v: Locals, gp: Option<NodeNo>) -> Decision
     ensures { result ≡ reaches182 v gp }
 {
-    let p = v.p;
-    let Some(_) = gp else {
-        return None;
-    };
-    if fields::same_node(p, ROOT) {
+    let _there = gp?;
+    if fields::same_node(v.p, ROOT) {
         None
     } else {
         hand::go_to(v, Place::Sibling182)
     }
 }
 
+#[tactic(auto, unfolding(steps::specs::Attempt::validated, laws::specs::Choice::pick))]
 fn validated(totals: Totals, nodes: &[u32], kind: Kind, k: Key, v: Locals) -> Decision
     ensures { result ≡ validated totals nodes.now kind k v }
 {
-    let l = v.l;
-    let gp = v.gp;
-    let key = fields::key_at(nodes, l);
-    let present = key == k.0 as u64;
-    match kind {
-        Kind::Insert => {
-            if present {
-                hand::say(Answer::No)
-            } else {
-                taking::take_three(totals, k, v)
-            }
-        }
-        Kind::Delete => {
-            if present {
-                reaches182(v, gp)
-            } else {
-                hand::say(Answer::No)
-            }
-        }
-        Kind::Find => {
-            if present {
-                hand::say(Answer::Yes)
-            } else {
-                hand::say(Answer::No)
-            }
-        }
+    let present = fields::key_at(nodes, v.l) == k.0 as u64;
+    match (kind, present) {
+        (Kind::Insert, false) => taking::take_three(totals, k, v),
+        (Kind::Delete, true) => reaches182(v, v.gp),
+        (Kind::Find, true) => hand::say(Answer::Yes),
+        (Kind::Insert, true) | (Kind::Delete | Kind::Find, false) => hand::say(Answer::No),
     }
 }
 
 // p's word, then gp's if that agreed and p is not the Root.
+#[tactic(auto, unfolding(steps::specs::Attempt::word66, steps::specs::Hand::through, laws::specs::Choice::pick))]
 pub fn word66(totals: Totals, nodes: &[u32], kind: Kind, k: Key, v: Locals) -> Decision
     ensures { result ≡ word66 totals nodes.now kind k v }
 {
-    let at = v.p;
-    let pup = v.pup;
-    let Some(p) = fields::as_parent(nodes, Some(at)) else {
-        return None;
-    };
-    let word = fields::update_at(nodes, p);
-    if fields::same_update(word, pup) {
-        if fields::same_node(p, ROOT) {
-            validated(totals, nodes, kind, k, v)
-        } else {
-            hand::go_to(v, Place::Grand66)
-        }
+    let p = fields::as_parent(nodes, Some(v.p))?;
+    if !fields::same_update(fields::update_at(nodes, p), v.pup) {
+        return hand::retry();
+    }
+    if fields::same_node(p, ROOT) {
+        validated(totals, nodes, kind, k, v)
     } else {
-        hand::retry()
+        hand::go_to(v, Place::Grand66)
     }
 }
 
+#[tactic(auto, unfolding(steps::specs::Attempt::grand66, steps::specs::Hand::through, laws::specs::Choice::pick))]
 pub fn grand66(totals: Totals, nodes: &[u32], kind: Kind, k: Key, v: Locals) -> Decision
     ensures { result ≡ grand66 totals nodes.now kind k v }
 {
-    let at = v.gp;
-    let gpup = v.gpup;
-    let Some(gp) = fields::as_parent(nodes, at) else {
-        return None;
-    };
-    let word = fields::update_at(nodes, gp);
-    if fields::same_update(word, gpup) {
+    let gp = fields::as_parent(nodes, v.gp)?;
+    if fields::same_update(fields::update_at(nodes, gp), v.gpup) {
         validated(totals, nodes, kind, k, v)
     } else {
         hand::retry()
     }
 }
 
+#[tactic(auto, unfolding(steps::specs::Attempt::word189))]
 pub fn word189(nodes: &[u32], v: Locals) -> Decision
     ensures { result ≡ word189 nodes.now v }
 {
-    let sibling = v.sibling;
-    let word = fields::update_at(nodes, sibling);
+    let word = fields::update_at(nodes, v.sibling);
     hand::go_to(hand::with_sup(v, word), Place::Leaf190)
 }
 
 // Read last, just before EXECUTE.
+#[tactic(auto, unfolding(steps::specs::Attempt::leaf_word))]
 pub fn leaf_word(nodes: &[u32], v: Locals) -> Decision
     ensures { result ≡ leaf_word nodes.now v }
 {
-    let l = v.l;
-    let word = fields::update_at(nodes, l);
+    let word = fields::update_at(nodes, v.l);
     hand::go_to(hand::with_lup(v, word), Place::Frozen97)
 }

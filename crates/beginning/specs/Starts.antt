@@ -19,7 +19,7 @@ holding k o = record { operation = Some o; hand = blank; pending = k.pending; fo
 
 -- refusal 4
 unfoldable pub begun : Board → ℕ → Operation → Option Operation → Reply
-begun b w o None = record { board = with_worker b b.totals w (holding (worker_of b w) o); outcome = (Ok None) }
+begun b w o None = record { board = with_worker b b.totals w (holding (worker_of b w) o); outcome = Ok None }
 begun b w o (Some old) = refused_by b refusal.Busy
 
 -- refusal 3, then 4

@@ -14,40 +14,39 @@ use fields::blank;
 use shapes::{Board, Operation, Refusal, Reply, Worker};
 
 // A worker at the beginning of its operation: found keys are counted anew, pending nodes stay.
+#[tactic(auto, unfolding(crate::specs::Starts::holding))]
 fn holding(k: Worker, o: Operation) -> Worker
     ensures { result ≡ holding k o }
 {
-    let hand = blank();
     Worker {
         operation: Some(o),
-        hand,
+        hand: blank(),
         pending: k.pending,
         found: 0,
     }
 }
 
 // An idle worker begins; a busy one is refused.
+#[tactic(auto, unfolding(crate::specs::Starts::begun))]
 fn begun(board: Board, w: u32, o: Operation) -> Reply
     ensures { result ≡ begun board w o (worker_of board w).operation }
 {
     let k = worker_of(board, w);
-    let operation = k.operation;
-    let None = operation else {
+    if k.operation.is_some() {
         return refuse(board, Refusal::Busy);
-    };
-    let totals = board.totals;
+    }
     Reply {
-        board: with_worker(board, totals, w, holding(k, o)),
+        board: with_worker(board, board.totals, w, holding(k, o)),
         outcome: Ok(None),
     }
 }
 
 // The worker is one of P.
+#[tactic(auto, unfolding(crate::specs::Starts::admitted, laws::specs::Choice::pick))]
 fn admitted(board: Board, w: u32, o: Operation) -> Reply
     ensures { result ≡ admitted board w o }
 {
-    let totals = board.totals;
-    if totals.p <= w {
+    if board.totals.p <= w {
         return refuse(board, Refusal::Worker);
     }
     begun(board, w, o)

@@ -82,7 +82,7 @@ module _ (p : ℕ) (s : World) (T : ℕ → ℕ) (R : Reached p s T) (w : ℕ) (
     other_knows : (u : ℕ) → u < (totals_of s).p → u ≢ w → Told u (pick (eqb w u) 0 (T u)) (worker_at (started s w (worker_at s w) o) u)
     other_knows u l ne = rw (other_worker u ne, other_count w u 0 (T u) ne) (R.knows u l)
 
-    started_reached : Started (record { world = started s w (worker_at s w) o; outcome = (Ok None) })
+    started_reached : Started (record { world = started s w (worker_at s w) o; outcome = Ok None })
     unfolding started is_refused pick
     started_reached h = record {
       sound = h;

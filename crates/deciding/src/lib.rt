@@ -13,6 +13,7 @@ const LEFT: bool = true;
 const RIGHT: bool = false;
 
 // An insert, a delete or a find; at a scan's place it is crooked.
+#[tactic(auto, unfolding(steps::specs::Decide::attempt))]
 fn decide_attempt(
     totals: Totals,
     nodes: &[u32],
@@ -30,25 +31,25 @@ fn decide_attempt(
         Place::Link(a, b) => links::link_step(totals, nodes, records, k, v, a, b),
         Place::Word66 => attempts::word66(totals, nodes, kind, k, v),
         Place::Grand66 => attempts::grand66(totals, nodes, kind, k, v),
-        Place::Leaf164 => attempts::leaf_word(nodes, v),
+        Place::Leaf164 | Place::Leaf190 => attempts::leaf_word(nodes, v),
         Place::Sibling182 => links::sibling182(totals, nodes, v),
         Place::CopyLeft => taking::copy_word(nodes, v, LEFT),
         Place::CopyRight => taking::copy_word(nodes, v, RIGHT),
         Place::Word189 => attempts::word189(nodes, v),
-        Place::Leaf190 => attempts::leaf_word(nodes, v),
         Place::Frozen97 => execute::frozen97(nodes, records, kind, v),
         Place::State98 => execute::state98(records, kind, v),
         Place::Freeze103 => execute::freeze103(nodes, records, v),
         Place::Help(b, c) => scanning::decide_help(totals, nodes, records, v, b, c),
-        Place::Counter130 => None,
-        Place::Bump131 => None,
-        Place::Word139 => None,
-        Place::State140 => None,
-        Place::Child141 => None,
-        Place::Left144 => None,
+        Place::Counter130
+        | Place::Bump131
+        | Place::Word139
+        | Place::State140
+        | Place::Child141
+        | Place::Left144 => None,
     }
 }
 
+#[tactic(auto, unfolding(steps::specs::Decide::decide))]
 pub fn decide(
     totals: Totals,
     nodes: &[u32],

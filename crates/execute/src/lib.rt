@@ -13,39 +13,33 @@ use shapes::{Back, Decision, Effect, HelpStep, Kind, Locals, Place, Update};
 use tables::FLAG;
 
 // oldUpdate[i], from 1.
+#[tactic(auto, unfolding(steps::specs::Execute::old_update, laws::specs::Choice::pick))]
 fn old_update(o: Kind, v: Locals, i: u32) -> Update
     ensures { result ≡ old_update o v i }
 {
-    match o {
-        Kind::Insert => { if i == 1 { v.pup } else { v.lup } }
-        Kind::Delete => {
-            if i == 1 {
-                return v.gpup;
-            }
-            if i == 2 {
-                return v.pup;
-            }
-            if i == 3 { v.lup } else { v.sup }
-        }
-        Kind::Find => v.up,
+    match (o, i) {
+        (Kind::Insert, 1) => v.pup,
+        (Kind::Insert, _) => v.lup,
+        (Kind::Delete, 1) => v.gpup,
+        (Kind::Delete, 2) => v.pup,
+        (Kind::Delete, 3) => v.lup,
+        (Kind::Delete, _) => v.sup,
+        (Kind::Find, _) => v.up,
     }
 }
 
 // Lines 96 and 97; the last frozen test is followed by line 102.
+#[tactic(auto, unfolding(steps::specs::Execute::frozen97, laws::specs::Choice::pick))]
 pub fn frozen97(nodes: &[u32], records: &[u32], o: Kind, v: Locals) -> Decision
     ensures { result ≡ frozen97 nodes.now records.now o v }
 {
-    let i = v.i;
-    let info = v.info;
-    let u = old_update(o, v, i);
-    if hand::is_frozen(records, u) {
+    if hand::is_frozen(records, old_update(o, v, v.i)) {
         return hand::go_to(v, Place::State98);
     }
-    let count = listed(o);
-    if i < count {
-        return hand::go_to(hand::with_i(v, i + 1), Place::Frozen97);
+    if v.i < listed(o) {
+        return hand::go_to(hand::with_i(v, v.i + 1), Place::Frozen97);
     }
-    if fields::fillable(records, info) {
+    if fields::fillable(records, v.info) {
         fills(nodes, o, v)
     } else {
         None
@@ -53,13 +47,12 @@ pub fn frozen97(nodes: &[u32], records: &[u32], o: Kind, v: Locals) -> Decision
 }
 
 // Lines 98 and 99: the state is read a second time.
+#[tactic(auto, unfolding(steps::specs::Execute::state98, laws::specs::Choice::pick))]
 pub fn state98(records: &[u32], o: Kind, v: Locals) -> Decision
     ensures { result ≡ state98 records.now o v }
 {
-    let u = old_update(o, v, v.i);
-    let info = u.info;
-    let state = fields::state_at(records, info);
-    if fields::in_progress(state) {
+    let info = old_update(o, v, v.i).info;
+    if fields::in_progress(fields::state_at(records, info)) {
         hand::help_then_retry(info)
     } else {
         hand::retry()
@@ -67,27 +60,22 @@ pub fn state98(records: &[u32], o: Kind, v: Locals) -> Decision
 }
 
 // Lines 103 to 105: the CAS of nodes[1].
+#[tactic(auto, unfolding(steps::specs::Execute::freeze103, laws::specs::Choice::pick))]
 pub fn freeze103(nodes: &[u32], records: &[u32], v: Locals) -> Decision
     ensures { result ≡ freeze103 nodes.now records.now v }
 {
     let info = v.info;
-    if fields::helpable(records, info) {
-        let e = fields::entry_at(records, info, 1);
-        let x = e.node;
-        let old = e.old;
-        let word = fields::update_at(nodes, x);
-        if fields::same_update(word, old) {
-            let frozen = Update { mark: FLAG, info };
-            let next = hand::holding_record(info);
-            hand::decide_to(
-                Effect::Freeze(x, frozen),
-                next,
-                Place::Help(HelpStep::Counter111, Back::Own),
-            )
-        } else {
-            hand::retry()
-        }
-    } else {
-        None
+    if !fields::helpable(records, info) {
+        return None;
     }
+    let first = fields::entry_at(records, info, 1);
+    if !fields::same_update(fields::update_at(nodes, first.node), first.old) {
+        return hand::retry();
+    }
+    let frozen = Update { mark: FLAG, info };
+    hand::decide_to(
+        Effect::Freeze(first.node, frozen),
+        hand::holding_record(info),
+        Place::Help(HelpStep::Counter111, Back::Own),
+    )
 }

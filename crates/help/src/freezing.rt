@@ -16,6 +16,7 @@ pub fn reads(s: HelpStep) -> Option<HelpMove>
 }
 
 // Line 111: the handshake.
+#[tactic(auto, unfolding(steps::specs::Help::counter111, laws::specs::Choice::pick))]
 pub fn counter111(totals: Totals, records: &[u32], r: RecordNo) -> Option<HelpMove>
     ensures { result ≡ counter111 totals records.now r }
 {
@@ -28,11 +29,11 @@ pub fn counter111(totals: Totals, records: &[u32], r: RecordNo) -> Option<HelpMo
 }
 
 // Lines 112 and 113.
+#[tactic(auto, unfolding(steps::specs::Help::state_cas, laws::specs::Choice::pick))]
 pub fn state_cas(records: &[u32], r: RecordNo, s: u32) -> Effect
     ensures { result ≡ state_cas records.now r s }
 {
-    let state = fields::state_at(records, r);
-    if state == UNDECIDED {
+    if fields::state_at(records, r) == UNDECIDED {
         Effect::SetState(r, s)
     } else {
         Effect::Nothing
@@ -40,54 +41,50 @@ pub fn state_cas(records: &[u32], r: RecordNo, s: u32) -> Effect
 }
 
 // Lines 114 and 115.
+#[tactic(auto, unfolding(steps::specs::Help::state114, laws::specs::Choice::pick))]
 pub fn state114(records: &[u32], r: RecordNo) -> Option<HelpMove>
     ensures { result ≡ state114 records.now r }
 {
-    let state = fields::state_at(records, r);
-    if state == TRY {
-        Some(HelpMove::Goes(Effect::Nothing, SECOND, HelpStep::Freeze117))
+    if fields::state_at(records, r) == TRY {
+        Some(HelpMove::Goes(
+            Effect::Nothing,
+            SECOND,
+            HelpStep::Freeze117,
+        ))
     } else {
         reads(HelpStep::State125)
     }
 }
 
 // Lines 116 to 118: the CAS of nodes[i].
+#[tactic(auto, unfolding(steps::specs::Help::freeze_cas, laws::specs::Choice::pick))]
 pub fn freeze_cas(nodes: &[u32], records: &[u32], r: RecordNo, i: u32) -> Effect
     ensures { result ≡ freeze_cas nodes.now records.now r i }
 {
     let e = fields::entry_at(records, r, i);
-    let x = e.node;
-    let old = e.old;
-    let word = fields::update_at(nodes, x);
-    if fields::same_update(word, old) {
-        Effect::Freeze(
-            x,
-            Update {
-                mark: e.mark,
-                info: r,
-            },
-        )
-    } else {
-        Effect::Nothing
+    if !fields::same_update(fields::update_at(nodes, e.node), e.old) {
+        return Effect::Nothing;
     }
+    let frozen = Update {
+        mark: e.mark,
+        info: r,
+    };
+    Effect::Freeze(e.node, frozen)
 }
 
 // Lines 119 and 120, then 115 or 122.
+#[tactic(auto, unfolding(steps::specs::Help::frozen119, laws::specs::Choice::pick))]
 pub fn frozen119(nodes: &[u32], records: &[u32], r: RecordNo, i: u32) -> Option<HelpMove>
     ensures { result ≡ frozen119 nodes.now records.now r i }
 {
     let e = fields::entry_at(records, r, i);
-    let x = e.node;
-    let word = fields::update_at(nodes, x);
-    let info = word.info;
-    if fields::same_record(info, r) {
-        let count = fields::count_at(records, r);
-        if i < count {
-            Some(HelpMove::Goes(Effect::Nothing, i + 1, HelpStep::Freeze117))
-        } else {
-            reads(HelpStep::Child123)
-        }
+    let word = fields::update_at(nodes, e.node);
+    if !fields::same_record(word.info, r) {
+        return reads(HelpStep::State125);
+    }
+    if i < fields::count_at(records, r) {
+        Some(HelpMove::Goes(Effect::Nothing, i + 1, HelpStep::Freeze117))
     } else {
-        reads(HelpStep::State125)
+        reads(HelpStep::Child123)
     }
 }

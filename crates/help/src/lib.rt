@@ -14,6 +14,7 @@ use shapes::{Answer, Back, Decision, Effect, HelpMove, HelpStep, Locals, Place, 
 use tables::{ABORT, COMMIT, TRY};
 
 // One turn inside HELP, by the line it executes.
+#[tactic(auto, unfolding(steps::specs::Help::help_step))]
 fn help_step(
     totals: Totals,
     nodes: &[u32],
@@ -24,26 +25,27 @@ fn help_step(
 ) -> Option<HelpMove>
     ensures { result ≡ help_step (tables totals nodes.now records.now) r i b }
 {
-    match b {
-        HelpStep::Counter111 => counter111(totals, records, r),
-        HelpStep::Abort112 => Some(HelpMove::Goes(state_cas(records, r, ABORT), 0, HelpStep::State114)),
-        HelpStep::Try113 => Some(HelpMove::Goes(state_cas(records, r, TRY), 0, HelpStep::State114)),
-        HelpStep::State114 => state114(records, r),
-        HelpStep::Freeze117 => Some(HelpMove::Goes(
-            freeze_cas(nodes, records, r, i),
-            i,
-            HelpStep::Frozen119,
-        )),
-        HelpStep::Frozen119 => frozen119(nodes, records, r, i),
-        HelpStep::Child123 => Some(HelpMove::Goes(child123(nodes, records, r), 0, HelpStep::Commit124)),
-        HelpStep::Commit124 => Some(HelpMove::Goes(Effect::SetState(r, COMMIT), 0, HelpStep::State127)),
-        HelpStep::State125 => state125(records, r),
-        HelpStep::Abort126 => Some(HelpMove::Goes(Effect::SetState(r, ABORT), 0, HelpStep::State127)),
-        HelpStep::State127 => Some(HelpMove::Done(fields::state_at(records, r) == COMMIT)),
-    }
+    let (effect, next_i, next) = match b {
+        HelpStep::Counter111 => return counter111(totals, records, r),
+        HelpStep::State114 => return state114(records, r),
+        HelpStep::Frozen119 => return frozen119(nodes, records, r, i),
+        HelpStep::State125 => return state125(records, r),
+        HelpStep::State127 => {
+            let done = fields::state_at(records, r) == COMMIT;
+            return Some(HelpMove::Done(done));
+        }
+        HelpStep::Abort112 => (state_cas(records, r, ABORT), 0, HelpStep::State114),
+        HelpStep::Try113 => (state_cas(records, r, TRY), 0, HelpStep::State114),
+        HelpStep::Freeze117 => (freeze_cas(nodes, records, r, i), i, HelpStep::Frozen119),
+        HelpStep::Child123 => (child123(nodes, records, r), 0, HelpStep::Commit124),
+        HelpStep::Commit124 => (Effect::SetState(r, COMMIT), 0, HelpStep::State127),
+        HelpStep::Abort126 => (Effect::SetState(r, ABORT), 0, HelpStep::State127),
+    };
+    Some(HelpMove::Goes(effect, next_i, next))
 }
 
 // Helping the dummy or an unfilled record is crooked in each turn.
+#[tactic(auto, unfolding(steps::specs::Help::help_of, laws::specs::Choice::pick))]
 pub fn help_of(
     totals: Totals,
     nodes: &[u32],
@@ -61,35 +63,23 @@ pub fn help_of(
     }
 }
 
+#[tactic(auto, unfolding(steps::specs::Help::back_to, laws::specs::Choice::pick))]
 fn back_to(b: Back, v: Locals, done: bool) -> Decision
     ensures { result ≡ back_to b v done }
 {
     match b {
-        Back::Own => {
-            if done {
-                hand::say(Answer::Yes)
-            } else {
-                hand::retry()
-            }
-        }
-        Back::Again => hand::retry(),
-        Back::Node => {
-            let seq = v.seq;
-            let p = v.p;
-            hand::go_to(hand::at_node(seq, p), Place::Child141)
-        }
+        Back::Own if done => hand::say(Answer::Yes),
+        Back::Own | Back::Again => hand::retry(),
+        Back::Node => hand::go_to(hand::at_node(v.seq, v.p), Place::Child141),
     }
 }
 
+#[tactic(auto, unfolding(steps::specs::Help::help_next))]
 pub fn help_next(b: Back, v: Locals, m: Option<HelpMove>) -> Decision
     ensures { result ≡ help_next b v m }
 {
-    match m {
-        None => None,
-        Some(HelpMove::Goes(e, i, s)) => {
-            let next = hand::with_i(v, i);
-            hand::decide_to(e, next, Place::Help(s, b))
-        }
-        Some(HelpMove::Done(done)) => back_to(b, v, done),
+    match m? {
+        HelpMove::Goes(e, i, s) => hand::decide_to(e, hand::with_i(v, i), Place::Help(s, b)),
+        HelpMove::Done(done) => back_to(b, v, done),
     }
 }

@@ -8,12 +8,11 @@ use shapes::{Effect, HelpMove, HelpStep, NodeNo, RecordNo};
 use tables::TRY;
 
 // Lines 84 to 87: new's side of the parent, if old stands there.
+#[tactic(auto, unfolding(steps::specs::Help::cas_child, laws::specs::Choice::pick))]
 fn cas_child(nodes: &[u32], parent: NodeNo, old: NodeNo, new: NodeNo) -> Effect
     ensures { result ≡ cas_child nodes.now parent old new }
 {
-    let key = fields::key_at(nodes, new);
-    let above = fields::key_at(nodes, parent);
-    let left = key < above;
+    let left = fields::key_at(nodes, new) < fields::key_at(nodes, parent);
     let child = fields::child_at(nodes, parent, left);
     if fields::same_node(child, old) {
         Effect::Link(parent, left, new)
@@ -33,11 +32,11 @@ pub fn child123(nodes: &[u32], records: &[u32], r: RecordNo) -> Effect
 }
 
 // Line 125.
+#[tactic(auto, unfolding(steps::specs::Help::state125, laws::specs::Choice::pick))]
 pub fn state125(records: &[u32], r: RecordNo) -> Option<HelpMove>
     ensures { result ≡ state125 records.now r }
 {
-    let state = fields::state_at(records, r);
-    if state == TRY {
+    if fields::state_at(records, r) == TRY {
         reads(HelpStep::Abort126)
     } else {
         reads(HelpStep::State127)

@@ -11,13 +11,7 @@ use Rattle.steps.specs.Turn.{Ran, goes_on, run_by}
 use Rattle.turning.specs.Fits.{step_within}
 use Rattle.running.specs.Loop.{is_going, counted, steps_from}
 
--- a turn that goes on is counted
-going-counted : (o : Outcome) (t u : ℕ) → is_going o ≡ true → counted o t u ≡ u
-unfolding is_going counted
-going-counted (Ok None) t u h = refl
-going-counted (Ok (Some a)) t u h = refl
-going-counted (Err r) t u h = absurd (false≢true h)
-
+-- what a turn that goes on leaves to the rest, and one that ends the run
 goes_on_lem : (o : Outcome) (s : World) (t : ℕ) (rest : Ran) → is_going o ≡ true → goes_on o s t rest ≡ rest
 unfolding goes_on is_going
 goes_on_lem (Ok None) s t rest h = refl
@@ -30,8 +24,8 @@ stops (Ok None) s t rest h = absurd (true≢false h)
 stops (Ok (Some a)) s t rest h = refl
 stops (Err r) s t rest h = refl
 
--- d is what the next turn leaves, u the count with it
-module _ (n t w : ℕ) (s : World) (d : Left) (e : d ≡ step_within s w) (l : t < n) (u : ℕ) (f : u ≡ counted d.outcome t (t + 1)) where
+-- d is what the next turn leaves
+module _ (n t w : ℕ) (s : World) (d : Left) (e : d ≡ step_within s w) (l : t < n) where
   next : steps_from (n - t) t w s ≡ goes_on d.outcome d.world t (steps_from (n - (t + 1)) (t + 1) w d.world)
   unfolding run_by
   next =
@@ -39,22 +33,13 @@ module _ (n t w : ℕ) (s : World) (d : Left) (e : d ≡ step_within s w) (l : t
       let taken : t + 1 ≡ suc t = omega arith in
       rw (left, taken, e) refl
 
-  taken : is_going d.outcome ≡ true → u ≡ t + 1
-  taken h = f ∙ going-counted _ _ _ h
+  pub goes : is_going d.outcome ≡ true → steps_from (n - (t + 1)) (t + 1) w d.world ≡ steps_from (n - t) t w s
+  goes h = sym (next ∙ goes_on_lem _ _ _ _ h)
 
-  pub fewer : is_going d.outcome ≡ true → n - u < n - t
-  fewer h = omega (arith, taken h)
-
-  pub within : is_going d.outcome ≡ true → u ≤ n
-  within h = omega (arith, taken h)
-
-  pub goes : is_going d.outcome ≡ true → steps_from (n - u) u w d.world ≡ steps_from (n - t) t w s
-  goes h = rw (taken h) (sym (next ∙ goes_on_lem _ _ _ _ h))
-
-  pub ends_by : is_going d.outcome ≡ false → record { world = d.world; outcome = d.outcome; turns = u } ≡ steps_from (n - t) t w s
-  ends_by h = let one : t + 1 ≡ suc t = omega arith in sym (next ∙ stops _ _ _ _ h ∙ rw (f, one) refl)
+  pub ends_by : (u : ℕ) → u ≡ counted d.outcome t (t + 1) → is_going d.outcome ≡ false → record { world = d.world; outcome = d.outcome; turns = u } ≡ steps_from (n - t) t w s
+  ends_by u f h = let one : t + 1 ≡ suc t = omega arith in sym (next ∙ stops _ _ _ _ h ∙ rw (f, one) refl)
 
 -- n turns were taken
-pub ends : (n t w : ℕ) (s : World) → n ≤ t → record { world = s; outcome = Ok None; turns = t } ≡ steps_from (n - t) t w s
+pub ends : (n t w : ℕ) (s : World) → t ≡ n → record { world = s; outcome = Ok None; turns = n } ≡ steps_from (n - t) t w s
 unfolding run_by
-ends n t w s l = let none : n - t ≡ 0 = omega arith in rw none refl
+ends n t w s l = let none : n - t ≡ 0 = omega (arith, l) in rw (none, l) refl

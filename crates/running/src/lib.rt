@@ -8,23 +8,20 @@ ghost use Rattle.running.specs.Loop.{is_going, counted, ran, steps_from};
 use shapes::{Board, Outcome, Run};
 use turning::step;
 
+#[tactic(auto, unfolding(crate::specs::Loop::is_going))]
 fn is_going(outcome: Outcome) -> bool
     ensures { result ≡ is_going outcome }
 {
-    match outcome {
-        Ok(None) => true,
-        Ok(Some(_)) => false,
-        Err(_) => false,
-    }
+    matches!(outcome, Ok(None))
 }
 
 // The accepted turns: a refused one is not counted.
+#[tactic(auto, unfolding(crate::specs::Loop::counted))]
 fn counted(outcome: Outcome, turns: u32, taken: u32) -> u32
     ensures { result ≡ counted outcome turns taken }
 {
     match outcome {
-        Ok(None) => taken,
-        Ok(Some(_)) => taken,
+        Ok(_) => taken,
         Err(_) => turns,
     }
 }
@@ -42,24 +39,22 @@ pub fn steps(
     ensures { ran result nodes.new records.new pending.new found.new ≡ steps_from n 0 w (world board nodes.old records.old pending.old found.old) }
 {
     let mut b = board;
-    let mut turns = 0;
-    while turns < n {
+    for turns in 0..n {
         let reply = step(b, w, nodes, records, pending, found);
         let outcome = reply.outcome;
         let taken = turns + 1;
         b = reply.board;
-        turns = counted(outcome, turns, taken);
         if !is_going(outcome) {
             return Run {
                 board: b,
                 outcome,
-                turns,
+                turns: counted(outcome, turns, taken),
             };
         }
     }
     Run {
         board: b,
         outcome: Ok(None),
-        turns,
+        turns: n,
     }
 }

@@ -25,6 +25,7 @@ pub fn decide_help(
 }
 
 // A scan; at an attempt's place it is crooked.
+#[tactic(auto, unfolding(steps::specs::Decide::scan))]
 pub fn decide_scan(
     totals: Totals,
     nodes: &[u32],
@@ -40,20 +41,6 @@ pub fn decide_scan(
     ensures { result ≡ scan (tables totals nodes.now records.now) (lists top pending found) low high v q }
 {
     match q {
-        Place::Counter74 => None,
-        Place::Search39 => None,
-        Place::Link(_, _) => None,
-        Place::Word66 => None,
-        Place::Grand66 => None,
-        Place::Leaf164 => None,
-        Place::Sibling182 => None,
-        Place::CopyLeft => None,
-        Place::CopyRight => None,
-        Place::Word189 => None,
-        Place::Leaf190 => None,
-        Place::Frozen97 => None,
-        Place::State98 => None,
-        Place::Freeze103 => None,
         Place::Help(b, c) => decide_help(totals, nodes, records, v, b, c),
         Place::Counter130 => hand::go_to(hand::at_root(Phase(totals.counter)), Place::Bump131),
         Place::Bump131 => sweep::bump131(totals, v),
@@ -61,5 +48,19 @@ pub fn decide_scan(
         Place::State140 => sweep::state140(records, v),
         Place::Child141 => sweep::child141(totals, nodes, low, high, pending, found, v),
         Place::Left144 => sweep::left144(totals, nodes, low, high, v.seq, top, pending, found),
+        Place::Counter74
+        | Place::Search39
+        | Place::Link(_, _)
+        | Place::Word66
+        | Place::Grand66
+        | Place::Leaf164
+        | Place::Sibling182
+        | Place::CopyLeft
+        | Place::CopyRight
+        | Place::Word189
+        | Place::Leaf190
+        | Place::Frozen97
+        | Place::State98
+        | Place::Freeze103 => None,
     }
 }

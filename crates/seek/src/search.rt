@@ -5,6 +5,7 @@ ghost use Rattle.steps.specs.Search.{goes_left, landed, search39};
 use shapes::{Decision, Key, Link, LinkStep, Locals, NodeNo, Place, Totals};
 
 // An infinite key is wider than a word, so keys are compared in 64 bits.
+#[tactic(auto, unfolding(steps::specs::Search::goes_left))]
 pub fn goes_left(nodes: &[u32], k: Key, x: NodeNo) -> bool
     ensures { result ≡ goes_left nodes.now k x }
 {
@@ -13,6 +14,7 @@ pub fn goes_left(nodes: &[u32], k: Key, x: NodeNo) -> bool
 }
 
 // Line 36: on with an internal node, or out with a leaf.
+#[tactic(auto, unfolding(steps::specs::Search::landed, laws::specs::Choice::pick))]
 fn landed(nodes: &[u32], v: Locals, c: NodeNo) -> Decision
     ensures { result ≡ landed nodes.now v c }
 {
@@ -26,17 +28,12 @@ fn landed(nodes: &[u32], v: Locals, c: NodeNo) -> Decision
     }
 }
 
+#[tactic(auto, unfolding(steps::specs::Search::search39, steps::specs::Hand::through))]
 pub fn search39(totals: Totals, nodes: &[u32], k: Key, v: Locals) -> Decision
     ensures { result ≡ search39 totals nodes.now k v }
 {
-    let at = v.p;
-    let seq = v.seq;
-    let Some(p) = fields::as_parent(nodes, Some(at)) else {
-        return None;
-    };
+    let p = fields::as_parent(nodes, Some(v.p))?;
     let left = goes_left(nodes, k, p);
-    let Some(c) = fields::read_child(totals.nodes, nodes, p, left, seq) else {
-        return None;
-    };
+    let c = fields::read_child(totals.nodes, nodes, p, left, v.seq)?;
     landed(nodes, v, c)
 }

@@ -5,35 +5,36 @@ ghost use Rattle.steps.specs.Validate.{word52, state53, child57, link_of, link_p
 use crate::search::goes_left;
 use shapes::{Key, Link, LinkMove, LinkStep, Locals, NodeNo, Update};
 
+#[tactic(auto, unfolding(steps::specs::Validate::word52))]
 fn word52(nodes: &[u32], parent: Option<NodeNo>) -> Option<LinkMove>
     ensures { result ≡ word52 nodes.now parent }
 {
-    let Some(x) = parent else {
-        return None;
-    };
-    Some(LinkMove::Goes(LinkStep::State53, fields::update_at(nodes, x)))
+    let word = fields::update_at(nodes, parent?);
+    Some(LinkMove::Goes(LinkStep::State53, word))
 }
 
+#[tactic(auto, unfolding(steps::specs::Validate::state53, laws::specs::Choice::pick))]
 fn state53(records: &[u32], up: Update) -> Option<LinkMove>
     ensures { result ≡ state53 records.now up }
 {
-    let info = up.info;
     if hand::is_frozen(records, up) {
-        Some(LinkMove::Helps(info))
+        Some(LinkMove::Helps(up.info))
     } else {
         Some(LinkMove::Goes(LinkStep::Child57, up))
     }
 }
 
-fn child57(nodes: &[u32], parent: Option<NodeNo>, child: Option<NodeNo>, left: bool) -> Option<LinkMove>
+#[tactic(auto, unfolding(steps::specs::Validate::child57, laws::specs::Choice::pick))]
+fn child57(
+    nodes: &[u32],
+    parent: Option<NodeNo>,
+    child: Option<NodeNo>,
+    left: bool,
+) -> Option<LinkMove>
     ensures { result ≡ child57 nodes.now parent child left }
 {
-    let Some(x) = parent else {
-        return None;
-    };
-    let Some(c) = child else {
-        return None;
-    };
+    let x = parent?;
+    let c = child?;
     let newest = fields::child_at(nodes, x, left);
     if fields::same_node(newest, c) {
         Some(LinkMove::Holds)
@@ -42,6 +43,7 @@ fn child57(nodes: &[u32], parent: Option<NodeNo>, child: Option<NodeNo>, left: b
     }
 }
 
+#[tactic(auto, unfolding(steps::specs::Validate::link_of))]
 pub fn link_of(
     nodes: &[u32],
     records: &[u32],
@@ -62,74 +64,59 @@ pub fn link_of(
 
 // ---- the arguments of the five calls
 
+#[tactic(auto, unfolding(steps::specs::Validate::link_parent))]
 pub fn link_parent(v: Locals, a: Link) -> Option<NodeNo>
     ensures { result ≡ link_parent v a }
 {
-    let gp = v.gp;
-    let p = v.p;
-    let sibling = v.sibling;
     match a {
-        Link::Leaf64 => Some(p),
-        Link::Parent65 => gp,
-        Link::Sibling183 => Some(p),
-        Link::Left187 => Some(sibling),
-        Link::Right188 => Some(sibling),
+        Link::Leaf64 | Link::Sibling183 => Some(v.p),
+        Link::Parent65 => v.gp,
+        Link::Left187 | Link::Right188 => Some(v.sibling),
     }
 }
 
+#[tactic(auto, unfolding(steps::specs::Validate::copy_child))]
 fn copy_child(nodes: &[u32], copy: Option<NodeNo>, left: bool) -> Option<NodeNo>
     ensures { result ≡ copy_child nodes.now copy left }
 {
-    let Some(x) = copy else {
-        return None;
-    };
-    Some(fields::child_at(nodes, x, left))
+    copy.map(|x| fields::child_at(nodes, x, left))
 }
 
+#[tactic(auto, unfolding(steps::specs::Validate::link_child))]
 pub fn link_child(nodes: &[u32], v: Locals, a: Link) -> Option<NodeNo>
     ensures { result ≡ link_child nodes.now v a }
 {
-    let p = v.p;
-    let l = v.l;
-    let sibling = v.sibling;
-    let made = v.made;
     match a {
-        Link::Leaf64 => Some(l),
-        Link::Parent65 => Some(p),
-        Link::Sibling183 => Some(sibling),
-        Link::Left187 => copy_child(nodes, fields::as_parent(nodes, Some(made)), true),
-        Link::Right188 => copy_child(nodes, fields::as_parent(nodes, Some(made)), false),
+        Link::Leaf64 => Some(v.l),
+        Link::Parent65 => Some(v.p),
+        Link::Sibling183 => Some(v.sibling),
+        Link::Left187 => copy_child(nodes, fields::as_parent(nodes, Some(v.made)), true),
+        Link::Right188 => copy_child(nodes, fields::as_parent(nodes, Some(v.made)), false),
     }
 }
 
 // Lines 182 and 183: the sibling stands on the side where l does not.
+#[tactic(auto, unfolding(steps::specs::Validate::sibling_left))]
 pub fn sibling_left(nodes: &[u32], v: Locals) -> bool
     ensures { result ≡ sibling_left nodes.now v }
 {
-    let p = v.p;
-    let l = v.l;
-    let parent = fields::key_at(nodes, p);
-    let leaf = fields::key_at(nodes, l);
-    parent <= leaf
+    fields::key_at(nodes, v.p) <= fields::key_at(nodes, v.l)
 }
 
+#[tactic(auto, unfolding(steps::specs::Validate::parent_left))]
 fn parent_left(nodes: &[u32], k: Key, parent: Option<NodeNo>) -> bool
     ensures { result ≡ parent_left nodes.now k parent }
 {
-    let Some(x) = parent else {
-        return false;
-    };
-    goes_left(nodes, k, x)
+    parent.is_some_and(|x| goes_left(nodes, k, x))
 }
 
+#[tactic(auto, unfolding(steps::specs::Validate::link_left))]
 pub fn link_left(nodes: &[u32], k: Key, v: Locals, a: Link) -> bool
     ensures { result ≡ link_left nodes.now k v a }
 {
-    let gp = v.gp;
-    let p = v.p;
     match a {
-        Link::Leaf64 => goes_left(nodes, k, p),
-        Link::Parent65 => parent_left(nodes, k, gp),
+        Link::Leaf64 => goes_left(nodes, k, v.p),
+        Link::Parent65 => parent_left(nodes, k, v.gp),
         Link::Sibling183 => sibling_left(nodes, v),
         Link::Left187 => true,
         Link::Right188 => false,

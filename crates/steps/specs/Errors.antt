@@ -100,7 +100,7 @@ pub record Rejected : Type 0 where
   -- a made-up turn count, whatever it is made of besides the tables: P1 and P2
   pub made_up_count : (count : ℕ → ℕ → ℕ) → ((n w : ℕ) (s : World) → count n w ≡ (run_of n s w).turns) → ⊥
   -- the first turn of insert 5, line 74, exactly: the worker has its phase and goes on to line 39; nothing else moves
-  pub first_turn : turn_of starts5 0 ≡ record { world = with_worker 0 (busy (Insert (key_of (pos 5)) place.Search39) (at_root (phase 0)) 0 0) starts5; outcome = (Ok None) }
+  pub first_turn : turn_of starts5 0 ≡ record { world = with_worker 0 (busy (Insert (key_of (pos 5)) place.Search39) (at_root (phase 0)) 0 0) starts5; outcome = Ok None }
   -- the tables after each of its 18 turns
   pub turn_by_turn : diary 18 starts5 ≡
       -- 74, 39, 52, 53, 57

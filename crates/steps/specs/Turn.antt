@@ -104,7 +104,7 @@ started s w k o = record {
 }
 
 unfoldable pub begin : World → ℕ → Worker → Operation → Option Operation → Left
-begin s w k o None = record { world = started s w k o; outcome = (Ok None) }
+begin s w k o None = record { world = started s w k o; outcome = Ok None }
 begin s w k o (Some old) = refused s refusal.Busy
 
 unfoldable pub start_of : World → ℕ → Operation → Left

@@ -12,6 +12,7 @@ const LEFT: bool = true;
 const RIGHT: bool = false;
 
 // Lines 141 to 143: right alone, left alone, or right with left to follow.
+#[tactic(auto, unfolding(steps::specs::Scan::child141, steps::specs::Hand::through, laws::specs::Choice::pick))]
 pub fn child141(
     totals: Totals,
     nodes: &[u32],
@@ -23,34 +24,25 @@ pub fn child141(
 ) -> Decision
     ensures { (top : NodeNo) → result ≡ child141 totals nodes.now (span low high v.seq) (lists top pending found) v }
 {
-    let p = v.p;
-    let seq = v.seq;
-    let Some(x) = as_parent(nodes, Some(p)) else {
-        return None;
-    };
+    let x = as_parent(nodes, Some(v.p))?;
     let key = key_at(nodes, x);
-    let alone = visiting(low, high, seq, PendingChange::Keep, pending, found);
+    let alone = visiting(low, high, v.seq, PendingChange::Keep, pending, found);
     if key < low.0 as u64 {
         return reads(totals, nodes, alone, x, RIGHT);
     }
     if (high.0 as u64) < key {
         return reads(totals, nodes, alone, x, LEFT);
     }
-    if pending < totals.n {
-        let push = PendingChange::Push(x);
-        let both = visiting(low, high, seq, push, pending + 1, found);
-        return reads(totals, nodes, both, x, RIGHT);
+    if totals.n <= pending {
+        return None;
     }
-    None
-}
-
-fn popped(pending: u32) -> u32
-    ensures { result ≡ pending - 1 }
-{
-    if pending == 0 { 0 } else { pending - 1 }
+    let push = PendingChange::Push(x);
+    let both = visiting(low, high, v.seq, push, pending + 1, found);
+    reads(totals, nodes, both, x, RIGHT)
 }
 
 // Line 144: the left child of the node pushed last.
+#[tactic(auto, unfolding(steps::specs::Scan::left144, steps::specs::Hand::through))]
 pub fn left144(
     totals: Totals,
     nodes: &[u32],
@@ -63,10 +55,8 @@ pub fn left144(
 ) -> Decision
     ensures { result ≡ left144 totals nodes.now (span low high seq) (lists top pending found) }
 {
-    let Some(x) = as_parent(nodes, Some(top)) else {
-        return None;
-    };
-    let rest = popped(pending);
+    let x = as_parent(nodes, Some(top))?;
+    let rest = pending.saturating_sub(1);
     let visit = visiting(low, high, seq, PendingChange::Pop, rest, found);
     reads(totals, nodes, visit, x, LEFT)
 }

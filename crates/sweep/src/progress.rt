@@ -19,18 +19,17 @@ pub fn bump131(totals: Totals, v: Locals) -> Decision
 }
 
 // Line 139: the node's update word.
+#[tactic(auto, unfolding(steps::specs::Scan::word139, steps::specs::Hand::through))]
 pub fn word139(nodes: &[u32], v: Locals) -> Decision
     ensures { result ≡ word139 nodes.now v }
 {
-    let p = v.p;
-    let Some(x) = as_parent(nodes, Some(p)) else {
-        return None;
-    };
+    let x = as_parent(nodes, Some(v.p))?;
     let word = update_at(nodes, x);
     go_to(at_word(v.seq, x, word.info), Place::State140)
 }
 
 // Line 140: HELP what is in progress.
+#[tactic(auto, unfolding(steps::specs::Scan::state140, laws::specs::Choice::pick))]
 pub fn state140(records: &[u32], v: Locals) -> Decision
     ensures { result ≡ state140 records.now v }
 {

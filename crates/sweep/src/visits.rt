@@ -39,30 +39,29 @@ pub fn visiting(
 }
 
 // Line 137: an infinite key is above every high.
+#[tactic(auto, unfolding(steps::specs::Scan::within))]
 fn within(nodes: &[u32], visit: Visit, c: NodeNo) -> bool
     ensures { result ≡ within nodes.now (range visit) c }
 {
-    let low = visit.low;
-    let high = visit.high;
     let key = key_at(nodes, c);
-    low.0 as u64 <= key && key <= high.0 as u64
+    visit.low.0 as u64 <= key && key <= visit.high.0 as u64
 }
 
 // A turn that touches nothing but the scan's own lists.
 fn sweep_on(visit: Visit, hand: Locals, found: Option<Key>, next: Next) -> Decision
     ensures { result ≡ sweeps_on visit.change hand found next }
 {
-    let change = visit.change;
     Some(Step {
         effect: Effect::Nothing,
         hand,
-        pending: change,
+        pending: visit.change,
         found,
         next,
     })
 }
 
 // Done with a leaf: on with a left child, or the answer.
+#[tactic(auto, unfolding(steps::specs::Scan::leaves, laws::specs::Choice::pick))]
 fn leaves(visit: Visit, found: Option<Key>, keys: u32) -> Decision
     ensures { result ≡ leaves (range visit) visit.change found visit.pending keys }
 {
@@ -73,6 +72,7 @@ fn leaves(visit: Visit, found: Option<Key>, keys: u32) -> Decision
 }
 
 // An internal node is gone into, a leaf's key found or passed by.
+#[tactic(auto, unfolding(steps::specs::Scan::comes_to, laws::specs::Choice::pick))]
 fn comes_to(totals: Totals, nodes: &[u32], visit: Visit, c: NodeNo) -> Decision
     ensures { result ≡ comes_to totals nodes.now (range visit) visit.keys visit.change visit.pending c }
 {
@@ -80,22 +80,21 @@ fn comes_to(totals: Totals, nodes: &[u32], visit: Visit, c: NodeNo) -> Decision
         let hand = at_node(visit.seq, c);
         return sweep_on(visit, hand, None, Next::At(Place::Word139));
     }
-    if within(nodes, visit, c) {
-        if visit.keys < totals.n {
-            let key = Key(rank_at(nodes, c).word);
-            return leaves(visit, Some(key), visit.keys + 1);
-        }
+    if !within(nodes, visit, c) {
+        return leaves(visit, None, visit.keys);
+    }
+    if totals.n <= visit.keys {
         return None;
     }
-    leaves(visit, None, visit.keys)
+    let key = Key(rank_at(nodes, c).word);
+    leaves(visit, Some(key), visit.keys + 1)
 }
 
 // READCHILD of x, then SCANHELPER.
+#[tactic(auto, unfolding(steps::specs::Scan::reads, steps::specs::Hand::through))]
 pub fn reads(totals: Totals, nodes: &[u32], visit: Visit, x: NodeNo, left: bool) -> Decision
     ensures { result ≡ reads totals nodes.now (range visit) visit.keys visit.change visit.pending x left }
 {
-    let Some(c) = read_child(totals.nodes, nodes, x, left, visit.seq) else {
-        return None;
-    };
+    let c = read_child(totals.nodes, nodes, x, left, visit.seq)?;
     comes_to(totals, nodes, visit, c)
 }

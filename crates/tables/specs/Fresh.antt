@@ -67,5 +67,5 @@ fresh_world n m p s = record {
 unfoldable pub fresh_of : ℕ → ℕ → ℕ → World → Left
 fresh_of n m p s =
     pick (sizes_ok n m p && lent_ok n m p s)
-    (record { world = fresh_world n m p s; outcome = (Ok None) })
+    (record { world = fresh_world n m p s; outcome = Ok None })
     (refused s refusal.Size)

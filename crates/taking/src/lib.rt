@@ -4,10 +4,13 @@
 ghost use Rattle.std.specs.Prelude.{◌≡◌};
 ghost use Rattle.steps.specs.Attempt.{room, take_three, take_copy, copy_word};
 
-use shapes::{Answer, Decision, Effect, Key, Link, LinkStep, Locals, NodeNo, Place, RecordNo, Totals};
+use shapes::{
+    Answer, Decision, Effect, Key, Link, LinkStep, Locals, NodeNo, Place, RecordNo, Totals,
+};
 use tables::{DELETE_TAKES, INSERT_TAKES};
 
 // Totals may be any numbers, so the sums are made in 64 bits.
+#[tactic(auto, unfolding(steps::specs::Attempt::room))]
 fn room(totals: Totals, taken: u32) -> bool
     ensures { result ≡ room totals taken }
 {
@@ -17,31 +20,28 @@ fn room(totals: Totals, taken: u32) -> bool
 }
 
 // Lines 161 to 163: the internal node is the last of the three.
+#[tactic(auto, unfolding(steps::specs::Attempt::take_three, steps::specs::Attempt::room, laws::specs::Choice::pick))]
 pub fn take_three(totals: Totals, k: Key, v: Locals) -> Decision
     ensures { result ≡ take_three totals k v }
 {
-    let l = v.l;
-    let seq = v.seq;
     if room(totals, INSERT_TAKES) {
-        let internal = totals.nodes + 2;
-        let taken = hand::with_taken(v, NodeNo(internal), RecordNo(totals.records));
-        hand::decide_to(Effect::TakeThree(k, l, seq), taken, Place::Leaf164)
+        let internal = NodeNo(totals.nodes + 2);
+        let taken = hand::with_taken(v, internal, RecordNo(totals.records));
+        hand::decide_to(Effect::TakeThree(k, v.l, v.seq), taken, Place::Leaf164)
     } else {
         hand::say(Answer::NoRoom)
     }
 }
 
 // Line 185: the children of a copy are read next, if it has any.
+#[tactic(auto, unfolding(steps::specs::Attempt::take_copy, laws::specs::Choice::pick))]
 pub fn take_copy(totals: Totals, nodes: &[u32], v: Locals) -> Decision
     ensures { result ≡ take_copy totals nodes.now v }
 {
-    let sibling = v.sibling;
-    let p = v.p;
-    let seq = v.seq;
     if room(totals, DELETE_TAKES) {
         let taken = hand::with_taken(v, NodeNo(totals.nodes), RecordNo(totals.records));
-        let effect = Effect::TakeCopy(sibling, p, seq);
-        if fields::is_internal(nodes, sibling) {
+        let effect = Effect::TakeCopy(v.sibling, v.p, v.seq);
+        if fields::is_internal(nodes, v.sibling) {
             hand::decide_to(effect, taken, Place::CopyLeft)
         } else {
             hand::decide_to(effect, taken, Place::Word189)
@@ -52,18 +52,13 @@ pub fn take_copy(totals: Totals, nodes: &[u32], v: Locals) -> Decision
 }
 
 // A child word of an internal sibling into the copy: left first, then right.
+#[tactic(auto, unfolding(steps::specs::Attempt::copy_word, steps::specs::Hand::through, laws::specs::Choice::pick))]
 pub fn copy_word(nodes: &[u32], v: Locals, left: bool) -> Decision
     ensures { result ≡ copy_word nodes.now v left }
 {
-    let sibling = v.sibling;
-    let made = v.made;
-    let Some(s) = fields::as_parent(nodes, Some(sibling)) else {
-        return None;
-    };
-    let Some(copy) = fields::as_parent(nodes, Some(made)) else {
-        return None;
-    };
-    let effect = Effect::CopyChild(copy, left, fields::child_at(nodes, s, left));
+    let sibling = fields::as_parent(nodes, Some(v.sibling))?;
+    let copy = fields::as_parent(nodes, Some(v.made))?;
+    let effect = Effect::CopyChild(copy, left, fields::child_at(nodes, sibling, left));
     if left {
         hand::decide_to(effect, v, Place::CopyRight)
     } else {

@@ -14,19 +14,14 @@ pub fn spot(totals: Totals, w: u32, i: u32) -> usize
     w as usize * totals.n as usize + i as usize
 }
 
-fn one_less(n: u32) -> u32
-    ensures { result ≡ n - 1 }
-{
-    if n == 0 { 0 } else { n - 1 }
-}
-
 // The node pushed last.
 pub fn top(totals: Totals, pending: &[u32], w: u32, n: u32) -> NodeNo
     ensures { result ≡ node (get_or pending.now (spot totals w (n - 1)) 0) }
 {
-    NodeNo(fields::get(pending, spot(totals, w, one_less(n))))
+    NodeNo(fields::get(pending, spot(totals, w, n.saturating_sub(1))))
 }
 
+#[tactic(auto, unfolding(steps::specs::Turn::pending_left))]
 pub fn pending_left(n: u32, change: PendingChange) -> u32
     requires { n ≤ most_n }
     ensures { result ≡ pending_left n change }
@@ -34,40 +29,38 @@ pub fn pending_left(n: u32, change: PendingChange) -> u32
     match change {
         PendingChange::Keep => n,
         PendingChange::Push(_) => n + 1,
-        PendingChange::Pop => one_less(n),
+        PendingChange::Pop => n.saturating_sub(1),
     }
 }
 
-pub fn found_left(n: u32, change: Option<Key>) -> u32
+#[tactic(auto, unfolding(steps::specs::Turn::found_left))]
+pub fn found_left(n: u32, key: Option<Key>) -> u32
     requires { n ≤ most_n }
-    ensures { result ≡ found_left n change }
+    ensures { result ≡ found_left n key }
 {
-    match change {
+    match key {
         None => n,
         Some(_) => n + 1,
     }
 }
 
 // Places behind a count keep their contents.
+#[tactic(auto, unfolding(steps::specs::Turn::pushed))]
 pub fn push(pending: &mut [u32], at: usize, change: PendingChange)
     ensures { pending.new ≡ pushed pending.old at change }
 {
     match change {
-        PendingChange::Keep => {}
-        PendingChange::Push(x) => {
-            fields::put(pending, at, x.0);
-        }
-        PendingChange::Pop => {}
+        PendingChange::Push(x) => fields::put(pending, at, x.0),
+        PendingChange::Keep | PendingChange::Pop => {}
     }
 }
 
-pub fn add(found: &mut [i32], at: usize, change: Option<Key>)
-    ensures { found.new ≡ added found.old at change }
+#[tactic(auto, unfolding(steps::specs::Turn::added))]
+pub fn add(found: &mut [i32], at: usize, key: Option<Key>)
+    ensures { found.new ≡ added found.old at key }
 {
-    match change {
+    match key {
         None => {}
-        Some(k) => {
-            fields::put_key(found, at, fields::number_of(k));
-        }
+        Some(k) => fields::put_key(found, at, fields::number_of(k)),
     }
 }

@@ -17,10 +17,9 @@ use tables::MOST_NODES;
 fn fits(board: Board, w: u32) -> bool
     ensures { result ≡ fits board w }
 {
-    let totals = board.totals;
     let k = worker_of(board, w);
     let few = (k.pending <= MOST_NODES) & (k.found <= MOST_NODES);
-    effects::within(totals) & ((totals.p <= w) | few)
+    effects::within(board.totals) & ((board.totals.p <= w) | few)
 }
 
 // The tables, worker w and its lists anew; nothing else moves.
@@ -41,12 +40,9 @@ fn settled(
     ensures { world result nodes.new records.new pending.new found.new ≡ settled (world board nodes.old records.old pending.old found.old) w k o d }
 {
     let totals = board.totals;
-    let effect = d.effect;
-    let change = d.pending;
-    let key = d.found;
-    push(pending, spot(totals, w, k.pending), change);
-    add(found, spot(totals, w, k.found), key);
-    let after = effects::apply(effect, totals, nodes, records);
+    push(pending, spot(totals, w, k.pending), d.pending);
+    add(found, spot(totals, w, k.found), d.found);
+    let after = effects::apply(d.effect, totals, nodes, records);
     with_worker(board, after, w, worker_next(k, o, d))
 }
 
@@ -64,23 +60,18 @@ fn step_on(
     requires found_le_most_n { k.found ≤ most_n }
     ensures { left result nodes.new records.new pending.new found.new ≡ step_on (world board nodes.old records.old pending.old found.old) w k k.operation }
 {
-    let operation = k.operation;
-    let totals = board.totals;
-    let hand = k.hand;
-    let Some(o) = operation else {
+    let Some(o) = k.operation else {
         return refuse(board, Refusal::Idle);
     };
+    let totals = board.totals;
     let last = top(totals, pending, w, k.pending);
-    let decision = deciding::decide(totals, nodes, records, last, k.pending, k.found, o, hand);
+    let decision = deciding::decide(totals, nodes, records, last, k.pending, k.found, o, k.hand);
     let Some(d) = decision else {
         return refuse(board, Refusal::Crooked);
     };
-    let next = d.next;
-    let outcome = outcome_of(next);
-    let after = settled(board, w, k, o, d, nodes, records, pending, found);
     Reply {
-        board: after,
-        outcome,
+        board: settled(board, w, k, o, d, nodes, records, pending, found),
+        outcome: outcome_of(d.next),
     }
 }
 
@@ -96,8 +87,7 @@ fn fitting_step(
     requires { fits board w ≡ true }
     ensures { left result nodes.new records.new pending.new found.new ≡ step_of (world board nodes.old records.old pending.old found.old) w }
 {
-    let totals = board.totals;
-    if totals.p <= w {
+    if board.totals.p <= w {
         return refuse(board, Refusal::Worker);
     }
     let k = worker_of(board, w);

@@ -6,6 +6,7 @@ ghost use Rattle.steps.specs.Turn.{moved, worker_next, outcome_of};
 use crate::lists::{found_left, pending_left};
 use shapes::{Next, Operation, Outcome, Place, Step, Worker};
 
+#[tactic(auto, unfolding(steps::specs::Turn::moved))]
 fn moved(o: Operation, q: Place) -> Operation
     ensures { result ≡ moved o q }
 {
@@ -18,27 +19,21 @@ fn moved(o: Operation, q: Place) -> Operation
 }
 
 // After any answer the worker is idle with none pending, and keeps its found keys.
+#[tactic(auto, unfolding(steps::specs::Turn::worker_next))]
 pub fn worker_next(k: Worker, o: Operation, d: Step) -> Worker
     requires pending_le_most_n { k.pending ≤ most_n }
     requires found_le_most_n { k.found ≤ most_n }
     ensures { result ≡ worker_next k o d d.next }
 {
     let hand = d.hand;
-    let next = d.next;
-    let change = d.pending;
-    let add = d.found;
-    let found = found_left(k.found, add);
-    match next {
-        Next::At(q) => {
-            let pending = pending_left(k.pending, change);
-            let operation = Some(moved(o, q));
-            Worker {
-                operation,
-                hand,
-                pending,
-                found,
-            }
-        }
+    let found = found_left(k.found, d.found);
+    match d.next {
+        Next::At(q) => Worker {
+            operation: Some(moved(o, q)),
+            hand,
+            pending: pending_left(k.pending, d.pending),
+            found,
+        },
         Next::Answers(_) => Worker {
             operation: None,
             hand,
@@ -48,6 +43,7 @@ pub fn worker_next(k: Worker, o: Operation, d: Step) -> Worker
     }
 }
 
+#[tactic(auto, unfolding(steps::specs::Turn::outcome_of))]
 pub fn outcome_of(next: Next) -> Outcome
     ensures { result ≡ outcome_of next }
 {

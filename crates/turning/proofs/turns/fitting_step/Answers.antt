@@ -7,14 +7,14 @@ use Rattle.steps.specs.Turn.{step_of}
 use Rattle.turning.proofs.Fits.{turn_fits}
 use Rattle.turning.proofs.turns.fitting_step.Goals as goal
 
-pub returns-then-totals-w : goal.returns-then-totals-w
+pub returns-then-board-w : goal.returns-then-board-w
 unfolding step_of pick
-returns-then-totals-w c = rw (le-ltb _ _ c.if-totals-w.true, c.refuse.ensures) refl
+returns-then-board-w c = rw (le-ltb _ _ c.if-board-w.true, c.refuse.ensures) refl
 
 pub step_on-requires : goal.step_on-requires
 unfolding worker_at
 step_on-requires c =
-    let enough = turn_fits _ _ c.requires c.if-totals-w.false in
+    let enough = turn_fits _ _ c.requires c.if-board-w.false in
     record {
       within_sizes = enough.0;
       pending_le_most_n = rw c.worker_of-k.ensures enough.1.0;
@@ -23,4 +23,4 @@ step_on-requires c =
 
 pub returns : goal.returns
 unfolding step_of pick worker_at
-returns c = rw (lt-ltb _ _ c.if-totals-w.false, ← c.worker_of-k.ensures) c.step_on.ensures
+returns c = rw (lt-ltb _ _ c.if-board-w.false, ← c.worker_of-k.ensures) c.step_on.ensures
