@@ -1,4 +1,7 @@
-// Everything lent, stirred into one number: what is the same before and after gives the same number.
+// All that is lent, and all that is kept, stirred into one number each: what is the same before and after gives the same number.
+use crate::lists::Lists;
+use crate::places::number_of;
+use shapes::{Board, Condition, Locals, MaybeNode, Operation, Worker};
 
 const FACTOR: u64 = 31;
 
@@ -6,34 +9,64 @@ const FACTOR: u64 = 31;
 const PRIME: u64 = 4_294_967_291;
 
 pub fn stir(sum: u32, word: u32) -> u32 {
-    ((sum as u64 * FACTOR + word as u64) % PRIME) as u32
-}
-
-fn stir_words(sum: u32, words: &[u32]) -> u32 {
-    let mut all = sum;
-    for word in words {
-        all = stir(all, *word);
-    }
-    all
+    ((u64::from(sum) * FACTOR + u64::from(word)) % PRIME) as u32
 }
 
 // A signed number goes in by the code by which a schedule sends it.
-fn stir_keys(sum: u32, keys: &[i32]) -> u32 {
-    let mut all = sum;
-    for key in keys {
-        all = stir(all, groups::code(*key));
-    }
-    all
+pub fn of_lists(lists: &Lists<'_>) -> u32 {
+    let words = lists.nodes.iter().chain(lists.records.iter());
+    let keys = lists.found.iter().chain(lists.keys.iter());
+    words
+        .chain(lists.pending.iter())
+        .copied()
+        .chain(keys.map(|key| groups::code(*key)))
+        .fold(0, stir)
 }
 
-pub fn of_lists(
-    nodes: &[u32],
-    records: &[u32],
-    pending: &[u32],
-    found: &[i32],
-    keys: &[i32],
-) -> u32 {
-    let shared = stir_words(stir_words(0, nodes), records);
-    let lists = stir_keys(stir_words(shared, pending), found);
-    stir_keys(lists, keys)
+fn stir_maybe(sum: u32, node: MaybeNode) -> u32 {
+    match node {
+        MaybeNode::Absent => stir(sum, 0),
+        MaybeNode::At(node) => stir(stir(sum, 1), node.0),
+    }
+}
+
+fn stir_hand(sum: u32, hand: Locals) -> u32 {
+    let path = stir_maybe(stir(sum, hand.seq.0), hand.gp);
+    let read = [hand.gpup, hand.pup, hand.lup, hand.sup, hand.up]
+        .iter()
+        .fold(stir(stir(path, hand.p.0), hand.l.0), |all, update| {
+            stir(stir(all, update.mark), update.info.0)
+        });
+    [hand.sibling.0, hand.made.0, hand.info.0, hand.i]
+        .into_iter()
+        .fold(read, stir)
+}
+
+// Kind, keys, place. All but a scan have one key, which goes in twice.
+fn stir_condition(sum: u32, condition: Condition) -> u32 {
+    let (kind, low, high, place) = match condition {
+        Condition::Idle => return stir(sum, 0),
+        Condition::Busy(Operation::Insert(key, place)) => (1, key, key, place),
+        Condition::Busy(Operation::Delete(key, place)) => (2, key, key, place),
+        Condition::Busy(Operation::Find(key, place)) => (3, key, key, place),
+        Condition::Busy(Operation::Scan(low, high, place)) => (4, low, high, place),
+    };
+    [kind, low.0, high.0, number_of(place)]
+        .into_iter()
+        .fold(sum, stir)
+}
+
+fn stir_worker(sum: u32, worker: &Worker) -> u32 {
+    let held = stir_hand(stir_condition(sum, worker.condition), worker.hand);
+    stir(stir(held, worker.pending), worker.found)
+}
+
+pub fn of_board(board: &Board) -> u32 {
+    let totals = board.totals;
+    let used = [totals.nodes, totals.records, totals.counter];
+    let all = [totals.n, totals.m, totals.p]
+        .into_iter()
+        .chain(used)
+        .fold(0, stir);
+    board.workers.iter().fold(all, stir_worker)
 }
