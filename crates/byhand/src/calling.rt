@@ -2,9 +2,11 @@
 use crate::digest::{of_board, of_lists};
 use crate::lists::Lists;
 use crate::telling::{Left, Listed, Told, say};
+use machine::{start_delete, start_find, start_insert, start_scan};
 use shapes::{Board, Phase};
 use tables::MOST_WORKERS;
 
+// The worker comes first, behind it keys or the number of turns.
 #[derive(Clone, Copy)]
 pub enum Call {
     Make(u32, u32, u32),
@@ -36,8 +38,12 @@ impl Call {
     fn worker(self) -> u32 {
         match self {
             Call::Make(..) | Call::Version(_) => 0,
-            Call::Insert(w, _) | Call::Delete(w, _) | Call::Find(w, _) => w % MOST_WORKERS,
-            Call::Scan(w, ..) | Call::Go(w, _) | Call::Turn(w) => w % MOST_WORKERS,
+            Call::Insert(w, _)
+            | Call::Delete(w, _)
+            | Call::Find(w, _)
+            | Call::Scan(w, ..)
+            | Call::Turn(w)
+            | Call::Go(w, _) => w % MOST_WORKERS,
         }
     }
 
@@ -50,16 +56,10 @@ impl Call {
         let keys = &mut *lists.keys;
         let reply = match self {
             Call::Make(n, m, p) => fresh::fresh(board, n, m, p, nodes, records, pending, found),
-            Call::Insert(w, k) => machine::start_insert(
-                board, w, k, nodes, records, pending, found,
-            ),
-            Call::Delete(w, k) => machine::start_delete(
-                board, w, k, nodes, records, pending, found,
-            ),
-            Call::Find(w, k) => machine::start_find(board, w, k, nodes, records, pending, found),
-            Call::Scan(w, a, b) => machine::start_scan(
-                board, w, a, b, nodes, records, pending, found,
-            ),
+            Call::Insert(w, k) => start_insert(board, w, k, nodes, records, pending, found),
+            Call::Delete(w, k) => start_delete(board, w, k, nodes, records, pending, found),
+            Call::Find(w, k) => start_find(board, w, k, nodes, records, pending, found),
+            Call::Scan(w, a, b) => start_scan(board, w, a, b, nodes, records, pending, found),
             Call::Turn(w) => machine::turn(board, w, nodes, records, pending, found),
             Call::Go(w, n) => {
                 let run = machine::run(board, w, n, nodes, records, pending, found);

@@ -1,7 +1,7 @@
 // What a line asks for, by its first letter and its numbers.
 use crate::calling::Call;
 use crate::line::numbers;
-use crate::lists::{Lent, Write};
+use crate::lists::{Lent, Put};
 use crate::setting::Setting;
 
 #[derive(Clone, Copy)]
@@ -10,15 +10,15 @@ pub enum Command {
     Keep,
     Undo,
     Lend(Lent),
-    Write(Write),
+    Put(Put),
     Set(Setting),
     Call(Call),
 }
 
 // A letter of its own for each kind of line; every other letter begins a call.
 fn of_letter(letter: u8, numbers: [u32; 5]) -> Command {
-    if let Some(write) = Write::of_letter(letter, numbers) {
-        return Command::Write(write);
+    if let Some(put) = Put::of_letter(letter, numbers) {
+        return Command::Put(put);
     }
     match Setting::of_letter(letter, numbers) {
         Some(setting) => Command::Set(setting),

@@ -104,7 +104,7 @@ impl Desk {
             Command::Keep => self.kept = self.tables,
             Command::Undo => self.tables = self.kept,
             Command::Lend(lent) => self.tables.lent = lent,
-            Command::Write(write) => self.lists().write(write),
+            Command::Put(put) => self.lists().put(put),
             Command::Set(setting) => setting.set(&mut self.tables.board),
             Command::Call(call) => {
                 let board = self.tables.board;

@@ -1,6 +1,6 @@
 // All that is lent, and all that is kept, stirred into one number each: what is the same before and after gives the same number.
 use crate::lists::Lists;
-use crate::places::number_of;
+use crate::places::place_number;
 use shapes::{Board, Condition, Locals, MaybeNode, Operation, Worker};
 
 const FACTOR: u64 = 31;
@@ -14,11 +14,10 @@ pub fn stir(sum: u32, word: u32) -> u32 {
 
 // A signed number goes in by the code by which a schedule sends it.
 pub fn of_lists(lists: &Lists<'_>) -> u32 {
-    let words = lists.nodes.iter().chain(lists.records.iter());
+    let shared = lists.nodes.iter().chain(lists.records.iter());
+    let words = shared.chain(lists.pending.iter()).copied();
     let keys = lists.found.iter().chain(lists.keys.iter());
     words
-        .chain(lists.pending.iter())
-        .copied()
         .chain(keys.map(|key| groups::code(*key)))
         .fold(0, stir)
 }
@@ -51,7 +50,7 @@ fn stir_condition(sum: u32, condition: Condition) -> u32 {
         Condition::Busy(Operation::Find(key, place)) => (3, key, key, place),
         Condition::Busy(Operation::Scan(low, high, place)) => (4, low, high, place),
     };
-    [kind, low.0, high.0, number_of(place)]
+    [kind, low.0, high.0, place_number(place)]
         .into_iter()
         .fold(sum, stir)
 }

@@ -35,8 +35,8 @@ pub struct Lists<'a> {
 
 // What a line writes into the lists: a word everywhere, or one word at its place in its list.
 #[derive(Clone, Copy)]
-pub enum Write {
-    Wash(u32),
+pub enum Put {
+    Everywhere(u32),
     Node(usize, u32),
     Record(usize, u32),
     Pending(usize, u32),
@@ -46,13 +46,13 @@ fn place_in(row: u32, width: u32, field: u32) -> usize {
     row as usize * width as usize + field as usize
 }
 
-impl Write {
-    pub fn of_letter(letter: u8, [a, b, c, _, _]: [u32; 5]) -> Option<Write> {
+impl Put {
+    pub fn of_letter(letter: u8, [a, b, c, _, _]: [u32; 5]) -> Option<Put> {
         match letter {
-            b'w' => Some(Write::Wash(a)),
-            b'n' => Some(Write::Node(place_in(a, NODE_WIDTH, b), c)),
-            b'r' => Some(Write::Record(place_in(a, RECORD_WIDTH, b), c)),
-            b'p' => Some(Write::Pending(a as usize, b)),
+            b'w' => Some(Put::Everywhere(a)),
+            b'n' => Some(Put::Node(place_in(a, NODE_WIDTH, b), c)),
+            b'r' => Some(Put::Record(place_in(a, RECORD_WIDTH, b), c)),
+            b'p' => Some(Put::Pending(a as usize, b)),
             _ => None,
         }
     }
@@ -68,12 +68,12 @@ impl Lists<'_> {
     }
 
     // Past the end nothing is written.
-    pub fn write(&mut self, write: Write) {
-        match write {
-            Write::Wash(word) => self.wash(word),
-            Write::Node(place, word) => fields::put(self.nodes, place, word),
-            Write::Record(place, word) => fields::put(self.records, place, word),
-            Write::Pending(place, word) => fields::put(self.pending, place, word),
+    pub fn put(&mut self, put: Put) {
+        match put {
+            Put::Everywhere(word) => self.wash(word),
+            Put::Node(place, word) => fields::put(self.nodes, place, word),
+            Put::Record(place, word) => fields::put(self.records, place, word),
+            Put::Pending(place, word) => fields::put(self.pending, place, word),
         }
     }
 }

@@ -143,7 +143,7 @@ impl From<Code> for Place {
 }
 
 // For the digest: every place has a number of its own.
-pub fn number_of(place: Place) -> u32 {
+pub fn place_number(place: Place) -> u32 {
     match place {
         Place::Link(link, step) => stir(Code::from(link).0, Code::from(step).0),
         Place::Help(step, back) => stir(Code::from(step).0, Code::from(back).0),

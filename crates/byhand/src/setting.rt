@@ -11,7 +11,7 @@ pub enum Setting {
         field: u32,
         value: u32,
     },
-    Condition {
+    Operation {
         worker: u32,
         condition: Condition,
     },
@@ -89,7 +89,7 @@ impl Setting {
     pub fn of_letter(letter: u8, [a, b, c, d, e]: [u32; 5]) -> Option<Setting> {
         match letter {
             b'b' => Some(Setting::Total { field: a, value: b }),
-            b'o' => Some(Setting::Condition {
+            b'o' => Some(Setting::Operation {
                 worker: a,
                 condition: condition_of(b, c, d, e),
             }),
@@ -110,7 +110,7 @@ impl Setting {
     pub fn set(self, board: &mut Board) {
         match self {
             Setting::Total { field, value } => set_total(&mut board.totals, field, value),
-            Setting::Condition { worker, condition } => {
+            Setting::Operation { worker, condition } => {
                 worker_mut(board, worker).condition = condition;
             }
             Setting::Hand {
