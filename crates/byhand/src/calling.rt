@@ -63,20 +63,16 @@ impl Call {
             Call::Turn(w) => machine::turn(board, w, nodes, records, pending, found),
             Call::Go(w, n) => {
                 let run = machine::run(board, w, n, nodes, records, pending, found);
-                let told = Told(run.outcome);
-                let turns = run.turns;
-                let _ = print!(rt; " = {told} after {turns}");
+                let _ = print!(rt; " = {} after {}", Told(run.outcome), run.turns);
                 return run.board;
             }
             Call::Version(phase) => {
                 let listing = lister::list(board, phase, nodes, records, pending, found, keys);
-                let listed = Listed { listing, keys };
-                let _ = print!(rt; " = {listed}");
+                let _ = print!(rt; " = {}", Listed { listing, keys });
                 return board;
             }
         };
-        let told = Told(reply.outcome);
-        let _ = print!(rt; " = {told}");
+        let _ = print!(rt; " = {}", Told(reply.outcome));
         reply.board
     }
 
@@ -91,14 +87,11 @@ impl Call {
         say(rt, line);
         let left = self.made(rt, board, lists);
         let lent = of_lists(lists);
-        let same = lent_before == lent && of_board(&board) == of_board(&left);
-        let totals = left.totals;
-        let worker = boards::worker_of(left, self.worker());
         let told = Left {
-            totals,
-            worker,
+            totals: left.totals,
+            worker: boards::worker_of(left, self.worker()),
             lent,
-            same,
+            same: lent_before == lent && of_board(&board) == of_board(&left),
         };
         let _ = println!(rt; "; {told}");
         left

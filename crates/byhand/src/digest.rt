@@ -12,6 +12,10 @@ pub fn stir(sum: u32, word: u32) -> u32 {
     ((u64::from(sum) * FACTOR + u64::from(word)) % PRIME) as u32
 }
 
+fn stir_all(sum: u32, words: &[u32]) -> u32 {
+    words.iter().copied().fold(sum, stir)
+}
+
 // A signed number goes in by the code by which a schedule sends it.
 pub fn of_lists(lists: &Lists<'_>) -> u32 {
     let shared = lists.nodes.iter().chain(lists.records.iter());
@@ -25,20 +29,20 @@ pub fn of_lists(lists: &Lists<'_>) -> u32 {
 fn stir_maybe(sum: u32, node: MaybeNode) -> u32 {
     match node {
         MaybeNode::Absent => stir(sum, 0),
-        MaybeNode::At(node) => stir(stir(sum, 1), node.0),
+        MaybeNode::At(node) => stir_all(sum, &[1, node.0]),
     }
 }
 
 fn stir_hand(sum: u32, hand: Locals) -> u32 {
-    let path = stir_maybe(stir(sum, hand.seq.0), hand.gp);
+    let above = stir_maybe(stir(sum, hand.seq.0), hand.gp);
+    let path = stir_all(above, &[hand.p.0, hand.l.0]);
     let read = [hand.gpup, hand.pup, hand.lup, hand.sup, hand.up]
         .iter()
-        .fold(stir(stir(path, hand.p.0), hand.l.0), |all, update| {
-            stir(stir(all, update.mark), update.info.0)
+        .fold(path, |all, update| {
+            stir_all(all, &[update.mark, update.info.0])
         });
-    [hand.sibling.0, hand.made.0, hand.info.0, hand.i]
-        .into_iter()
-        .fold(read, stir)
+    let last = [hand.sibling.0, hand.made.0, hand.info.0, hand.i];
+    stir_all(read, &last)
 }
 
 // Kind, keys, place. All but a scan have one key, which goes in twice.
@@ -50,22 +54,16 @@ fn stir_condition(sum: u32, condition: Condition) -> u32 {
         Condition::Busy(Operation::Find(key, place)) => (3, key, key, place),
         Condition::Busy(Operation::Scan(low, high, place)) => (4, low, high, place),
     };
-    [kind, low.0, high.0, place_number(place)]
-        .into_iter()
-        .fold(sum, stir)
+    stir_all(sum, &[kind, low.0, high.0, place_number(place)])
 }
 
 fn stir_worker(sum: u32, worker: &Worker) -> u32 {
     let held = stir_hand(stir_condition(sum, worker.condition), worker.hand);
-    stir(stir(held, worker.pending), worker.found)
+    stir_all(held, &[worker.pending, worker.found])
 }
 
 pub fn of_board(board: &Board) -> u32 {
-    let totals = board.totals;
-    let used = [totals.nodes, totals.records, totals.counter];
-    let all = [totals.n, totals.m, totals.p]
-        .into_iter()
-        .chain(used)
-        .fold(0, stir);
-    board.workers.iter().fold(all, stir_worker)
+    let t = board.totals;
+    let totals = stir_all(0, &[t.n, t.m, t.p, t.nodes, t.records, t.counter]);
+    board.workers.iter().fold(totals, stir_worker)
 }
