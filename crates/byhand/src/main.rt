@@ -27,8 +27,6 @@ mod calling; // the calls
 mod command; // what a line asks for
 mod desk; // one line obeyed
 
-ghost use Rattle.std.specs.Prelude.{◌≤◌, length};
-
 use crate::desk::Desk;
 use std::io::Read;
 
@@ -36,14 +34,13 @@ use std::io::Read;
 const MOST: usize = 65_536;
 
 // Reads to the end, or until the buffer is full. A read that fails is an end too: what came before is played.
-fn read_full<R: Read>(from: &mut R, buffer: &mut [u8]) -> usize
-    ensures { result ≤ length buffer.new }
-{
+// Stays: (d) the count: read_exact does not say how much came, and read_to_end asks for memory, which may fail.
+fn read_full<'a, R: Read>(from: &mut R, buffer: &'a mut [u8]) -> &'a [u8] {
     let mut done = 0;
     while let Ok(came @ 1..) = from.read(&mut buffer[done..]) {
         done += came;
     }
-    done
+    &buffer[..done]
 }
 
 fn play(rt: &impl Print, script: &[u8]) {
@@ -58,6 +55,5 @@ fn play(rt: &impl Print, script: &[u8]) {
 
 fn main(rt: HostRuntime) {
     let mut script = [0; MOST];
-    let size = read_full(&mut rt.stdin(), &mut script);
-    play(&rt, &script[..size]);
+    play(&rt, read_full(&mut rt.stdin(), &mut script));
 }

@@ -5,6 +5,7 @@ use shapes::{
 };
 use tables::MOST_WORKERS;
 
+// Stays: (d) a field by its number in the script: an enum of 25 names would be made in one place and matched in one.
 #[derive(Clone, Copy)]
 pub enum Setting {
     Total {
