@@ -1,164 +1,99 @@
 // The calls: each prints what it came to, and what it left.
-use crate::digest::of_lists;
-use crate::line::{Words, signed};
-use crate::telling::{
-    say, say_counts, say_keys, say_list, say_number, say_outcome, say_refusal, say_same, say_totals,
-};
-use crate::workers::of_board;
-use lister::Listing;
-use shapes::{Board, Phase, Reply, Run};
+use crate::digest::{of_board, of_lists};
+use crate::lists::Lists;
+use crate::telling::{Left, Listed, Told, say};
+use machine::{start_delete, start_find, start_insert, start_scan};
+use shapes::{Board, Phase};
 use tables::MOST_WORKERS;
 
-// What a call comes to is printed, and its board handed on.
-fn told(rt: &impl Print, reply: Reply) -> Board {
-    let outcome = reply.outcome;
-    say_outcome(rt, outcome);
-    reply.board
-}
-
-fn run_told(rt: &impl Print, run: Run) -> Board {
-    let outcome = run.outcome;
-    say_outcome(rt, outcome);
-    say(rt, b" after");
-    say_number(rt, run.turns);
-    run.board
-}
-
-fn start(
-    words: Words,
-    board: Board,
-    nodes: &[u32],
-    records: &[u32],
-    pending: &[u32],
-    found: &[i32],
-) -> Reply {
-    let w = words.first;
-    let a = signed(words.second);
-    let b = signed(words.third);
-    let command = words.command;
-    match command {
-        b'i' => machine::start_insert(board, w, a, nodes, records, pending, found),
-        b'd' => machine::start_delete(board, w, a, nodes, records, pending, found),
-        b'f' => machine::start_find(board, w, a, nodes, records, pending, found),
-        _ => machine::start_scan(board, w, a, b, nodes, records, pending, found),
-    }
-}
-
-fn say_version(rt: &impl Print, listing: Listing, keys: &[i32]) {
-    match listing {
-        Listing::Keys(n) => {
-            say_keys(rt, n);
-            say_list(rt, keys, n);
-        }
-        Listing::Refused(why) => say_refusal(rt, why),
-    }
-}
-
-// The calls that only read the tables.
-fn ask(
-    rt: &impl Print,
-    words: Words,
-    board: Board,
-    nodes: &[u32],
-    records: &[u32],
-    pending: &[u32],
-    found: &[i32],
-    keys: &mut [i32],
-) -> Board {
-    if words.command != b'v' {
-        return told(rt, start(words, board, nodes, records, pending, found));
-    }
-    let i = Phase(words.first);
-    let listing = lister::list(board, i, nodes, records, pending, found, keys);
-    say_version(rt, listing, keys);
-    board
-}
-
-// The call that the line asks for.
-fn call(
-    rt: &impl Print,
-    words: Words,
-    board: Board,
-    nodes: &mut [u32],
-    records: &mut [u32],
-    pending: &mut [u32],
-    found: &mut [i32],
-    keys: &mut [i32],
-) -> Board {
-    let a = words.first;
-    let b = words.second;
-    let c = words.third;
-    let command = words.command;
-    match command {
-        b'm' => told(
-            rt,
-            fresh::fresh(board, a, b, c, nodes, records, pending, found),
-        ),
-        b't' => told(rt, machine::turn(board, a, nodes, records, pending, found)),
-        b'g' => run_told(
-            rt,
-            machine::run(board, a, b, nodes, records, pending, found),
-        ),
-        _ => ask(rt, words, board, nodes, records, pending, found, keys),
-    }
-}
-
-// ---- what it left
-
-// Everything lent and everything kept, as numbers.
+// The worker comes first, behind it keys or the number of turns.
 #[derive(Clone, Copy)]
-struct Sums {
-    lent: u32,
-    kept: u32,
+pub enum Call {
+    Make(u32, u32, u32),
+    Insert(u32, i32),
+    Delete(u32, i32),
+    Find(u32, i32),
+    Scan(u32, i32, i32),
+    Turn(u32),
+    Go(u32, u32),
+    Version(Phase),
 }
 
-fn sums_of(
-    board: Board,
-    nodes: &[u32],
-    records: &[u32],
-    pending: &[u32],
-    found: &[i32],
-    keys: &[i32],
-) -> Sums {
-    Sums {
-        lent: of_lists(nodes, records, pending, found, keys),
-        kept: of_board(board),
+impl Call {
+    pub fn of_letter(letter: u8, [a, b, c, _, _]: [u32; 5]) -> Call {
+        let low = b.cast_signed();
+        match letter {
+            b'm' => Call::Make(a, b, c),
+            b'i' => Call::Insert(a, low),
+            b'd' => Call::Delete(a, low),
+            b'f' => Call::Find(a, low),
+            b't' => Call::Turn(a),
+            b'g' => Call::Go(a, b),
+            b'v' => Call::Version(Phase(a)),
+            _ => Call::Scan(a, low, c.cast_signed()),
+        }
     }
-}
 
-// Whose counts are shown: the worker of the call, or the first.
-fn worker_shown(words: Words) -> u32 {
-    let command = words.command;
-    match command {
-        b'm' | b'v' => 0,
-        _ => words.first % MOST_WORKERS,
+    // Whose counts are shown: the worker of the call, or the first.
+    fn worker(self) -> u32 {
+        match self {
+            Call::Make(..) | Call::Version(_) => 0,
+            Call::Insert(w, _)
+            | Call::Delete(w, _)
+            | Call::Find(w, _)
+            | Call::Scan(w, ..)
+            | Call::Turn(w)
+            | Call::Go(w, _) => w % MOST_WORKERS,
+        }
     }
-}
 
-fn say_left(rt: &impl Print, words: Words, board: Board, before: Sums, after: Sums) {
-    say_totals(rt, board.totals);
-    say_counts(rt, boards::worker_of(board, worker_shown(words)));
-    say(rt, b";");
-    say_number(rt, after.lent);
-    say_same(
-        rt,
-        (before.lent == after.lent) & (before.kept == after.kept),
-    );
-}
+    // Prints what the call comes to, and hands on its board.
+    fn made(self, rt: &impl Print, board: Board, lists: &mut Lists<'_>) -> Board {
+        let nodes = &mut *lists.nodes;
+        let records = &mut *lists.records;
+        let pending = &mut *lists.pending;
+        let found = &mut *lists.found;
+        let keys = &mut *lists.keys;
+        let reply = match self {
+            Call::Make(n, m, p) => fresh::fresh(board, n, m, p, nodes, records, pending, found),
+            Call::Insert(w, k) => start_insert(board, w, k, nodes, records, pending, found),
+            Call::Delete(w, k) => start_delete(board, w, k, nodes, records, pending, found),
+            Call::Find(w, k) => start_find(board, w, k, nodes, records, pending, found),
+            Call::Scan(w, a, b) => start_scan(board, w, a, b, nodes, records, pending, found),
+            Call::Turn(w) => machine::turn(board, w, nodes, records, pending, found),
+            Call::Go(w, n) => {
+                let run = machine::run(board, w, n, nodes, records, pending, found);
+                let _ = print!(rt; " = {} after {}", Told(run.outcome), run.turns);
+                return run.board;
+            }
+            Call::Version(phase) => {
+                let listing = lister::list(board, phase, nodes, records, pending, found, keys);
+                let _ = print!(rt; " = {}", Listed { listing, keys });
+                return board;
+            }
+        };
+        let _ = print!(rt; " = {}", Told(reply.outcome));
+        reply.board
+    }
 
-pub fn call_and_tell(
-    rt: &impl Print,
-    words: Words,
-    board: Board,
-    nodes: &mut [u32],
-    records: &mut [u32],
-    pending: &mut [u32],
-    found: &mut [i32],
-    keys: &mut [i32],
-) -> Board {
-    let before = sums_of(board, nodes, records, pending, found, keys);
-    let left = call(rt, words, board, nodes, records, pending, found, keys);
-    let after = sums_of(left, nodes, records, pending, found, keys);
-    say_left(rt, words, left, before, after);
-    left
+    pub fn make_and_tell(
+        self,
+        rt: &impl Print,
+        line: &[u8],
+        board: Board,
+        lists: &mut Lists<'_>,
+    ) -> Board {
+        let lent_before = of_lists(lists);
+        say(rt, line);
+        let left = self.made(rt, board, lists);
+        let lent = of_lists(lists);
+        let told = Left {
+            totals: left.totals,
+            worker: boards::worker_of(left, self.worker()),
+            lent,
+            same: lent_before == lent && of_board(&board) == of_board(&left),
+        };
+        let _ = println!(rt; "; {told}");
+        left
+    }
 }

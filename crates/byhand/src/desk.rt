@@ -1,146 +1,115 @@
 // One line obeyed, on what is kept and what is lent.
-ghost use Rattle.std.specs.Prelude.{◌≤◌};
-
-use crate::calling::call_and_tell;
-use crate::line::{Words, words_of};
-use crate::lists::set_lists;
-use crate::setting::set_board;
+use crate::command::Command;
+use crate::lists::{Lent, Lists};
 use crate::telling::say;
 use shapes::{Board, Totals};
+use tables::MOST_WORKERS;
 
-// How much of each list is lent, as the script says.
+// What can be lent: as much as one node and one record more than the largest sizes need, with one worker.
+const NODES: usize = 10_250;
+
+const RECORDS: usize = 11_286;
+
+const PLACES: usize = 1_025;
+
+const WORKERS: usize = MOST_WORKERS as usize;
+
+// What `keep` keeps.
 #[derive(Clone, Copy)]
-pub struct Lent {
-    pub nodes: u32,
-    pub records: u32,
-    pub pending: u32,
-    pub found: u32,
-    pub keys: u32,
+struct Tables {
+    board: Board,
+    lent: Lent,
+    nodes: [u32; NODES],
+    records: [u32; RECORDS],
+    pending: [u32; PLACES],
 }
 
-#[derive(Clone, Copy)]
+// Found keys and listed keys are only written, so they are not kept.
+#[derive(Drop)]
 pub struct Desk {
-    pub board: Board,
-    pub lent: Lent,
-}
-
-fn lent_after(words: Words, old: Lent) -> Lent {
-    if words.command == b'l' {
-        return Lent {
-            nodes: words.first,
-            records: words.second,
-            pending: words.third,
-            found: words.fourth,
-            keys: words.fifth,
-        };
-    }
-    old
+    tables: Tables,
+    kept: Tables,
+    found: [i32; PLACES],
+    keys: [i32; PLACES],
 }
 
 // No more than there is.
-fn part(asked: u32, all: usize) -> usize
-    ensures { result ≤ all }
-{
-    let size = asked as usize;
-    if size < all {
-        return size;
-    }
-    all
+fn part<T>(list: &mut [T], asked: u32) -> &mut [T] {
+    let size = (asked as usize).min(list.len());
+    &mut list[..size]
 }
 
 fn no_board() -> Board {
-    let totals = Totals {
-        n: 0,
-        m: 0,
-        p: 0,
-        nodes: 0,
-        records: 0,
-        counter: 0,
-    };
-    let idle = fields::idle();
-    let workers = [idle; 8];
-    Board { totals, workers }
-}
-
-// Nothing is lent, and no table made.
-pub fn bare_desk() -> Desk {
-    let board = no_board();
-    let lent = Lent {
-        nodes: 0,
-        records: 0,
-        pending: 0,
-        found: 0,
-        keys: 0,
-    };
-    Desk { board, lent }
-}
-
-// Every other letter begins a call.
-fn is_call(command: u8) -> bool {
-    match command {
-        b'#' | b'l' | b'w' | b'n' | b'r' | b'p' | b'b' | b'o' | b'h' | b'c' => false,
-        _ => true,
+    Board {
+        totals: Totals {
+            n: 0,
+            m: 0,
+            p: 0,
+            nodes: 0,
+            records: 0,
+            counter: 0,
+        },
+        workers: [fields::idle(); WORKERS],
     }
 }
 
-// A remark and a call are printed as they stand.
-fn say_line(rt: &impl Print, line: &[u8], command: u8) {
-    if command == b'#' {
-        say(rt, line);
-        say(rt, b"\n");
+impl Desk {
+    // Nothing is lent, and no table made.
+    pub fn bare() -> Desk {
+        let tables = Tables {
+            board: no_board(),
+            lent: Lent::default(),
+            nodes: [0; NODES],
+            records: [0; RECORDS],
+            pending: [0; PLACES],
+        };
+        Desk {
+            tables,
+            kept: tables,
+            found: [0; PLACES],
+            keys: [0; PLACES],
+        }
     }
-    if is_call(command) {
-        say(rt, line);
-        say(rt, b" =");
-    }
-}
 
-// A line on what is lent.
-fn obey_on(
-    rt: &impl Print,
-    words: Words,
-    board: Board,
-    nodes: &mut [u32],
-    records: &mut [u32],
-    pending: &mut [u32],
-    found: &mut [i32],
-    keys: &mut [i32],
-) -> Board {
-    if is_call(words.command) {
-        return call_and_tell(rt, words, board, nodes, records, pending, found, keys);
+    // What is lent of the lists.
+    fn lists(&mut self) -> Lists<'_> {
+        let Desk {
+            tables,
+            found,
+            keys,
+            ..
+        } = self;
+        let Tables {
+            lent,
+            nodes,
+            records,
+            pending,
+            ..
+        } = tables;
+        Lists {
+            nodes: part(nodes, lent.nodes),
+            records: part(records, lent.records),
+            pending: part(pending, lent.pending),
+            found: part(found, lent.found),
+            keys: part(keys, lent.keys),
+        }
     }
-    set_lists(words, nodes, records, pending, found, keys);
-    set_board(words, board)
-}
 
-pub fn obey(
-    rt: &impl Print,
-    line: &[u8],
-    desk: Desk,
-    nodes: &mut [u32],
-    records: &mut [u32],
-    pending: &mut [u32],
-    found: &mut [i32],
-    keys: &mut [i32],
-) -> Desk {
-    let words = words_of(line);
-    say_line(rt, line, words.command);
-    let before = desk.board;
-    let lent = lent_after(words, desk.lent);
-    let a = part(lent.nodes, nodes.len());
-    let b = part(lent.records, records.len());
-    let c = part(lent.pending, pending.len());
-    let d = part(lent.found, found.len());
-    let e = part(lent.keys, keys.len());
-    let board = obey_on(
-        rt,
-        words,
-        before,
-        &mut nodes[..a],
-        &mut records[..b],
-        &mut pending[..c],
-        &mut found[..d],
-        &mut keys[..e],
-    );
-    Desk { board, lent }
+    pub fn obey(&mut self, rt: &impl Print, line: &[u8]) {
+        match Command::from(line) {
+            Command::Remark => {
+                say(rt, line);
+                say(rt, b"\n");
+            }
+            Command::Keep => self.kept = self.tables,
+            Command::Undo => self.tables = self.kept,
+            Command::Lend(lent) => self.tables.lent = lent,
+            Command::Put(put) => self.lists().put(put),
+            Command::Set(setting) => setting.set(&mut self.tables.board),
+            Command::Call(call) => {
+                let board = self.tables.board;
+                self.tables.board = call.make_and_tell(rt, line, board, &mut self.lists());
+            }
+        }
+    }
 }

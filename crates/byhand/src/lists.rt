@@ -1,64 +1,79 @@
-// What is written into the lent lists by hand.
-use crate::line::{Words, signed};
+// The lists that are lent, and what is written into them by hand.
 use tables::{NODE_WIDTH, RECORD_WIDTH};
 
-fn wash_words(list: &mut [u32], v: u32) {
-    list.fill(v);
+// How much of each list is lent, as the script says.
+#[derive(Clone, Copy, Default)]
+pub struct Lent {
+    pub nodes: u32,
+    pub records: u32,
+    pub pending: u32,
+    pub found: u32,
+    pub keys: u32,
 }
 
-fn wash_keys(list: &mut [i32], v: i32) {
-    list.fill(v);
-}
-
-// Where in its list the line sets a word.
-fn spot(words: Words) -> usize {
-    let x = words.first as usize;
-    let f = words.second as usize;
-    let command = words.command;
-    match command {
-        b'n' => x * NODE_WIDTH as usize + f,
-        b'r' => x * RECORD_WIDTH as usize + f,
-        _ => x,
+impl From<[u32; 5]> for Lent {
+    fn from([nodes, records, pending, found, keys]: [u32; 5]) -> Lent {
+        Lent {
+            nodes,
+            records,
+            pending,
+            found,
+            keys,
+        }
     }
 }
 
-// A place of the pending lists has no fields, so its word stands a word earlier.
-fn word(words: Words) -> u32 {
-    if words.command == b'p' {
-        return words.second;
-    }
-    words.third
+// All that a call is lent.
+#[derive(Drop)]
+pub struct Lists<'a> {
+    pub nodes: &'a mut [u32],
+    pub records: &'a mut [u32],
+    pub pending: &'a mut [u32],
+    pub found: &'a mut [i32],
+    pub keys: &'a mut [i32],
 }
 
-// `own` is the command that sets a word of this list; past the end nothing is written.
-fn set_words(words: Words, own: u8, list: &mut [u32]) {
-    if words.command == b'w' {
-        wash_words(list, words.first);
-        return;
-    }
-    if words.command == own {
-        fields::put(list, spot(words), word(words));
+// What a line writes into the lists: a word everywhere, or one word at its place in its list.
+#[derive(Clone, Copy)]
+pub enum Put {
+    Everywhere(u32),
+    Node(usize, u32),
+    Record(usize, u32),
+    Pending(usize, u32),
+}
+
+fn place_in(row: u32, width: u32, field: u32) -> usize {
+    row as usize * width as usize + field as usize
+}
+
+impl Put {
+    pub fn of_letter(letter: u8, [a, b, c, _, _]: [u32; 5]) -> Option<Put> {
+        match letter {
+            b'w' => Some(Put::Everywhere(a)),
+            b'n' => Some(Put::Node(place_in(a, NODE_WIDTH, b), c)),
+            b'r' => Some(Put::Record(place_in(a, RECORD_WIDTH, b), c)),
+            b'p' => Some(Put::Pending(a as usize, b)),
+            _ => None,
+        }
     }
 }
 
-fn set_keys(words: Words, list: &mut [i32]) {
-    if words.command == b'w' {
-        wash_keys(list, signed(words.first));
+impl Lists<'_> {
+    fn wash(&mut self, word: u32) {
+        self.nodes.fill(word);
+        self.records.fill(word);
+        self.pending.fill(word);
+        self.found.fill(word.cast_signed());
+        self.keys.fill(word.cast_signed());
     }
-}
 
-// What the line writes into the lists; other lines write nothing there.
-pub fn set_lists(
-    words: Words,
-    nodes: &mut [u32],
-    records: &mut [u32],
-    pending: &mut [u32],
-    found: &mut [i32],
-    keys: &mut [i32],
-) {
-    set_words(words, b'n', nodes);
-    set_words(words, b'r', records);
-    set_words(words, b'p', pending);
-    set_keys(words, found);
-    set_keys(words, keys);
+    // Past the end nothing is written.
+    pub fn put(&mut self, put: Put) {
+        match put {
+            Put::Everywhere(word) => self.wash(word),
+            Put::Node(place, word) => fields::put(self.nodes, place, word),
+            Put::Record(place, word) => fields::put(self.records, place, word),
+            Put::Pending(place, word) => fields::put(self.pending, place, word),
+        }
+    }
 }

@@ -17,91 +17,43 @@
 // lent, and whether all that is lent and kept is the same as before.
 #![tactic(auto)]
 
-mod line; // the words of a line
+mod line; // the numbers of a line
 mod places; // places by code
-mod digest; // everything lent as a number
-mod workers; // everything kept as a number
+mod lists; // what is lent, and what a line writes into it
 mod setting; // the board by hand
-mod lists; // the lists by hand
+mod digest; // everything lent, and everything kept, as a number
 mod telling; // what is printed
 mod calling; // the calls
+mod command; // what a line asks for
 mod desk; // one line obeyed
 
-ghost use Rattle.std.specs.Prelude.{◌≤◌, length};
-
-use crate::desk::{bare_desk, obey};
-use crate::line::{command, line_end};
+use crate::desk::Desk;
 use std::io::Read;
 
 // The longest script; what stands behind is not read.
 const MOST: usize = 65_536;
 
-// What can be lent: as much as one node and one record more than the largest sizes need, with one worker.
-const NODES: usize = 10_250;
-
-const RECORDS: usize = 11_286;
-
-const PLACES: usize = 1_025;
-
-// Found keys and listed keys are only written, so they are not kept.
-fn play(rt: &impl Print, script: &[u8]) {
-    let mut nodes = [0u32; NODES];
-    let mut records = [0u32; RECORDS];
-    let mut pending = [0u32; PLACES];
-    let mut found = [0i32; PLACES];
-    let mut keys = [0i32; PLACES];
-    let mut desk = bare_desk();
-    let mut kept_nodes = nodes;
-    let mut kept_records = records;
-    let mut kept_pending = pending;
-    let mut kept_desk = desk;
-    let mut start = 0;
-    while start < script.len() {
-        let end = line_end(script, start);
-        let line = &script[start..end];
-        start = end + 1;
-        if command(line) == b'k' {
-            kept_nodes = nodes;
-            kept_records = records;
-            kept_pending = pending;
-            kept_desk = desk;
-        } else if command(line) == b'u' {
-            nodes = kept_nodes;
-            records = kept_records;
-            pending = kept_pending;
-            desk = kept_desk;
-        } else {
-            desk = obey(
-                rt,
-                line,
-                desk,
-                &mut nodes,
-                &mut records,
-                &mut pending,
-                &mut found,
-                &mut keys,
-            );
-        }
+// Reads to the end, or until the buffer is full. A read that fails is an end too: what came before is played.
+// Stays: (d) the count: read_exact does not say how much came, and read_to_end asks for memory, which may fail.
+fn read_full<'a, R: Read>(from: &mut R, buffer: &'a mut [u8]) -> &'a [u8] {
+    let mut done = 0;
+    while let Ok(came @ 1..) = from.read(&mut buffer[done..]) {
+        done += came;
     }
+    &buffer[..done]
 }
 
-// Reads to the end, or until the buffer is full. A read that fails is an end too: what came before is played.
-fn read_full<R: Read>(from: &mut R, buffer: &mut [u8]) -> usize
-    ensures { result ≤ length buffer.new }
-{
-    let mut done = 0;
-    while done < buffer.len() {
-        match from.read(&mut buffer[done..]) {
-            Ok(0) => return done,
-            Ok(came) => done += came,
-            Err(_) => return done,
+fn play(rt: &impl Print, script: &[u8]) {
+    let mut desk = Desk::bare();
+    for line in script.split_inclusive(|byte| *byte == b'\n') {
+        match line {
+            [text @ .., b'\n'] => desk.obey(rt, text),
+            last => desk.obey(rt, last),
         }
     }
-    done
 }
 
 fn main(rt: HostRuntime) {
     let mut script = [0; MOST];
-    let size = read_full(&mut rt.stdin(), &mut script);
-    play(&rt, &script[..size]);
+    play(&rt, read_full(&mut rt.stdin(), &mut script));
 }

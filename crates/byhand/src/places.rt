@@ -11,131 +11,144 @@ const HELPS: u32 = 10;
 
 const LEAST_HELP: u32 = 1_000;
 
-fn link_of(code: u32) -> Link {
-    match code {
-        64 => Link::Leaf64,
-        65 => Link::Parent65,
-        183 => Link::Sibling183,
-        187 => Link::Left187,
-        _ => Link::Right188,
+#[derive(Clone, Copy)]
+pub struct Code(pub u32);
+
+impl From<Code> for Link {
+    fn from(code: Code) -> Link {
+        match code.0 {
+            64 => Link::Leaf64,
+            65 => Link::Parent65,
+            183 => Link::Sibling183,
+            187 => Link::Left187,
+            _ => Link::Right188,
+        }
     }
 }
 
-fn link_step_of(code: u32) -> LinkStep {
-    match code {
-        52 => LinkStep::Word52,
-        53 => LinkStep::State53,
-        _ => LinkStep::Child57,
+impl From<Link> for Code {
+    fn from(link: Link) -> Code {
+        Code(match link {
+            Link::Leaf64 => 64,
+            Link::Parent65 => 65,
+            Link::Sibling183 => 183,
+            Link::Left187 => 187,
+            Link::Right188 => 188,
+        })
     }
 }
 
-fn help_step_of(code: u32) -> HelpStep {
-    match code {
-        111 => HelpStep::Counter111,
-        112 => HelpStep::Abort112,
-        113 => HelpStep::Try113,
-        114 => HelpStep::State114,
-        117 => HelpStep::Freeze117,
-        119 => HelpStep::Frozen119,
-        123 => HelpStep::Child123,
-        124 => HelpStep::Commit124,
-        125 => HelpStep::State125,
-        126 => HelpStep::Abort126,
-        _ => HelpStep::State127,
+impl From<Code> for LinkStep {
+    fn from(code: Code) -> LinkStep {
+        match code.0 {
+            52 => LinkStep::Word52,
+            53 => LinkStep::State53,
+            _ => LinkStep::Child57,
+        }
     }
 }
 
-fn back_of(code: u32) -> Back {
-    match code {
-        1 => Back::Own,
-        2 => Back::Again,
-        _ => Back::Node,
+impl From<LinkStep> for Code {
+    fn from(step: LinkStep) -> Code {
+        Code(match step {
+            LinkStep::Word52 => 52,
+            LinkStep::State53 => 53,
+            LinkStep::Child57 => 57,
+        })
     }
 }
 
-fn bare_place_of(code: u32) -> Place {
-    match code {
-        39 => Place::Search39,
-        66 => Place::Word66,
-        67 => Place::Grand66,
-        97 => Place::Frozen97,
-        98 => Place::State98,
-        103 => Place::Freeze103,
-        130 => Place::Counter130,
-        131 => Place::Bump131,
-        139 => Place::Word139,
-        140 => Place::State140,
-        141 => Place::Child141,
-        144 => Place::Left144,
-        164 => Place::Leaf164,
-        182 => Place::Sibling182,
-        185 => Place::CopyLeft,
-        186 => Place::CopyRight,
-        189 => Place::Word189,
-        190 => Place::Leaf190,
-        _ => Place::Counter74,
+impl From<Code> for HelpStep {
+    fn from(code: Code) -> HelpStep {
+        match code.0 {
+            111 => HelpStep::Counter111,
+            112 => HelpStep::Abort112,
+            113 => HelpStep::Try113,
+            114 => HelpStep::State114,
+            117 => HelpStep::Freeze117,
+            119 => HelpStep::Frozen119,
+            123 => HelpStep::Child123,
+            124 => HelpStep::Commit124,
+            125 => HelpStep::State125,
+            126 => HelpStep::Abort126,
+            _ => HelpStep::State127,
+        }
     }
 }
 
-pub fn place_of(code: u32) -> Place {
-    if LEAST_LINK <= code {
-        return Place::Link(link_of(code / LINKS), link_step_of(code % LINKS));
-    }
-    if LEAST_HELP <= code {
-        return Place::Help(help_step_of(code / HELPS), back_of(code % HELPS));
-    }
-    bare_place_of(code)
-}
-
-// ---- for the digest: every place has a number of its own
-
-fn link_code(link: Link) -> u32 {
-    match link {
-        Link::Leaf64 => 64,
-        Link::Parent65 => 65,
-        Link::Sibling183 => 183,
-        Link::Left187 => 187,
-        Link::Right188 => 188,
+impl From<HelpStep> for Code {
+    fn from(step: HelpStep) -> Code {
+        Code(match step {
+            HelpStep::Counter111 => 111,
+            HelpStep::Abort112 => 112,
+            HelpStep::Try113 => 113,
+            HelpStep::State114 => 114,
+            HelpStep::Freeze117 => 117,
+            HelpStep::Frozen119 => 119,
+            HelpStep::Child123 => 123,
+            HelpStep::Commit124 => 124,
+            HelpStep::State125 => 125,
+            HelpStep::Abort126 => 126,
+            HelpStep::State127 => 127,
+        })
     }
 }
 
-fn link_step_code(step: LinkStep) -> u32 {
-    match step {
-        LinkStep::Word52 => 52,
-        LinkStep::State53 => 53,
-        LinkStep::Child57 => 57,
+impl From<Code> for Back {
+    fn from(code: Code) -> Back {
+        match code.0 {
+            1 => Back::Own,
+            2 => Back::Again,
+            _ => Back::Node,
+        }
     }
 }
 
-fn help_step_code(step: HelpStep) -> u32 {
-    match step {
-        HelpStep::Counter111 => 111,
-        HelpStep::Abort112 => 112,
-        HelpStep::Try113 => 113,
-        HelpStep::State114 => 114,
-        HelpStep::Freeze117 => 117,
-        HelpStep::Frozen119 => 119,
-        HelpStep::Child123 => 123,
-        HelpStep::Commit124 => 124,
-        HelpStep::State125 => 125,
-        HelpStep::Abort126 => 126,
-        HelpStep::State127 => 127,
+impl From<Back> for Code {
+    fn from(back: Back) -> Code {
+        Code(match back {
+            Back::Own => 1,
+            Back::Again => 2,
+            Back::Node => 3,
+        })
     }
 }
 
-fn back_code(back: Back) -> u32 {
-    match back {
-        Back::Own => 1,
-        Back::Again => 2,
-        Back::Node => 3,
+impl From<Code> for Place {
+    fn from(code: Code) -> Place {
+        match code.0 {
+            LEAST_LINK.. => Place::Link(Code(code.0 / LINKS).into(), Code(code.0 % LINKS).into()),
+            LEAST_HELP.. => Place::Help(Code(code.0 / HELPS).into(), Code(code.0 % HELPS).into()),
+            39 => Place::Search39,
+            66 => Place::Word66,
+            67 => Place::Grand66,
+            97 => Place::Frozen97,
+            98 => Place::State98,
+            103 => Place::Freeze103,
+            130 => Place::Counter130,
+            131 => Place::Bump131,
+            139 => Place::Word139,
+            140 => Place::State140,
+            141 => Place::Child141,
+            144 => Place::Left144,
+            164 => Place::Leaf164,
+            182 => Place::Sibling182,
+            185 => Place::CopyLeft,
+            186 => Place::CopyRight,
+            189 => Place::Word189,
+            190 => Place::Leaf190,
+            _ => Place::Counter74,
+        }
     }
 }
 
-pub fn place_code(q: Place) -> u32 {
-    match q {
+// For the digest: every place has a number of its own.
+pub fn place_number(place: Place) -> u32 {
+    match place {
+        Place::Link(link, step) => stir(Code::from(link).0, Code::from(step).0),
+        Place::Help(step, back) => stir(Code::from(step).0, Code::from(back).0),
         Place::Counter74 => 74,
         Place::Search39 => 39,
-        Place::Link(a, s) => stir(link_code(a), link_step_code(s)),
         Place::Word66 => 66,
         Place::Grand66 => 67,
         Place::Leaf164 => 164,
@@ -147,7 +160,6 @@ pub fn place_code(q: Place) -> u32 {
         Place::Frozen97 => 97,
         Place::State98 => 98,
         Place::Freeze103 => 103,
-        Place::Help(s, b) => stir(help_step_code(s), back_code(b)),
         Place::Counter130 => 130,
         Place::Bump131 => 131,
         Place::Word139 => 139,

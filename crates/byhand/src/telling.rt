@@ -1,93 +1,104 @@
 // What is printed.
+use lister::Listing;
 use shapes::{Answer, Outcome, Refusal, Totals, Worker};
+use std::fmt;
 
 // What cannot be written is passed over.
 pub fn say(rt: &impl Print, text: &[u8]) {
     let _ = rt.write_all(text);
 }
 
-pub fn say_number(rt: &impl Print, n: u32) {
-    let _ = print!(rt; " {n}");
+// What a start or a turn comes to.
+#[derive(Clone, Copy)]
+pub struct Told(pub Outcome);
+
+#[derive(Clone, Copy)]
+struct Said(Answer);
+
+#[derive(Clone, Copy)]
+struct Refused(Refusal);
+
+// A listing, with the list that its keys stand in.
+#[derive(Drop)]
+pub struct Listed<'a> {
+    pub listing: Listing,
+    pub keys: &'a [i32],
 }
 
-// A code is twice the number, or one less than twice its distance below zero.
-pub fn say_signed(rt: &impl Print, n: i32) {
-    let code = groups::code(n);
-    if code % 2 == 0 {
-        say_number(rt, code / 2);
-        return;
-    }
-    let distance = code as u64 / 2 + 1;
-    let _ = print!(rt; " -{distance}");
+// What a call left: a worker's counts, a digest of all that is lent, and whether all is the same as before.
+#[derive(Clone, Copy)]
+pub struct Left {
+    pub totals: Totals,
+    pub worker: Worker,
+    pub lent: u32,
+    pub same: bool,
 }
 
-fn refusal_number(why: Refusal) -> u32 {
-    match why {
-        Refusal::Table => 1,
-        Refusal::Size => 2,
-        Refusal::Worker => 3,
-        Refusal::Busy => 4,
-        Refusal::Idle => 5,
-        Refusal::Crooked => 7,
-    }
-}
-
-pub fn say_refusal(rt: &impl Print, why: Refusal) {
-    say(rt, b" refused");
-    say_number(rt, refusal_number(why));
-}
-
-pub fn say_keys(rt: &impl Print, n: usize) {
-    let _ = print!(rt; " keys {n}");
-}
-
-fn say_answer(rt: &impl Print, answer: Answer) {
-    match answer {
-        Answer::Yes => say(rt, b" yes"),
-        Answer::No => say(rt, b" no"),
-        Answer::Keys(n) => say_keys(rt, n as usize),
-        Answer::NoRoom => say(rt, b" no-room"),
-        Answer::NoPhase => say(rt, b" no-phase"),
-    }
-}
-
-pub fn say_outcome(rt: &impl Print, outcome: Outcome) {
-    match outcome {
-        Ok(None) => say(rt, b" going"),
-        Ok(Some(answer)) => say_answer(rt, answer),
-        Err(why) => say_refusal(rt, why),
-    }
-}
-
-// The first n keys of a list.
-pub fn say_list(rt: &impl Print, keys: &[i32], n: usize) {
-    for (i, key) in keys.iter().enumerate() {
-        if n <= i {
-            return;
+impl fmt::Display for Said {
+    fn fmt<W: fmt::Write>(&self, f: &mut fmt::Formatter<W>) -> fmt::Result {
+        match self.0 {
+            Answer::Yes => write!(f, "yes"),
+            Answer::No => write!(f, "no"),
+            Answer::Keys(n) => write!(f, "keys {n}"),
+            Answer::NoRoom => write!(f, "no-room"),
+            Answer::NoPhase => write!(f, "no-phase"),
         }
-        say_signed(rt, *key);
     }
 }
 
-// ---- what a call left
-
-pub fn say_totals(rt: &impl Print, t: Totals) {
-    say(rt, b";");
-    say_number(rt, t.nodes);
-    say_number(rt, t.records);
-    say_number(rt, t.counter);
-}
-
-pub fn say_counts(rt: &impl Print, k: Worker) {
-    say(rt, b";");
-    say_number(rt, k.pending);
-    say_number(rt, k.found);
-}
-
-pub fn say_same(rt: &impl Print, same: bool) {
-    if same {
-        say(rt, b"; same\n");
-        return;
+impl fmt::Display for Refused {
+    fn fmt<W: fmt::Write>(&self, f: &mut fmt::Formatter<W>) -> fmt::Result {
+        let number = match self.0 {
+            Refusal::Table => 1,
+            Refusal::Size => 2,
+            Refusal::Worker => 3,
+            Refusal::Busy => 4,
+            Refusal::Idle => 5,
+            Refusal::Crooked => 7,
+        };
+        write!(f, "refused {number}")
     }
-    say(rt, b"; changed\n");
+}
+
+impl fmt::Display for Told {
+    fn fmt<W: fmt::Write>(&self, f: &mut fmt::Formatter<W>) -> fmt::Result {
+        match self.0 {
+            Ok(None) => write!(f, "going"),
+            Ok(Some(answer)) => Said(answer).fmt(f),
+            Err(why) => Refused(why).fmt(f),
+        }
+    }
+}
+
+impl fmt::Display for Listed<'_> {
+    fn fmt<W: fmt::Write>(&self, f: &mut fmt::Formatter<W>) -> fmt::Result {
+        match self.listing {
+            Listing::Keys(n) => {
+                write!(f, "keys {n}")?;
+                for key in self.keys.iter().take(n) {
+                    write!(f, " {key}")?;
+                }
+                Ok(())
+            }
+            Listing::Refused(why) => Refused(why).fmt(f),
+        }
+    }
+}
+
+impl fmt::Display for Left {
+    fn fmt<W: fmt::Write>(&self, f: &mut fmt::Formatter<W>) -> fmt::Result {
+        let Totals {
+            nodes,
+            records,
+            counter,
+            ..
+        } = self.totals;
+        let Worker { pending, found, .. } = self.worker;
+        let lent = self.lent;
+        let same = if self.same { "same" } else { "changed" };
+        write!(
+            f,
+            "{nodes} {records} {counter}; {pending} {found}; {lent}; {same}"
+        )
+    }
 }

@@ -9,6 +9,7 @@ use lines::Line;
 use shapes::{Outcome, Reply, Run};
 use tally::Played;
 
+#[tactic(auto, unfolding(tally::specs::Playing::line_of))]
 fn line_of(number: u32, w: u32, outcome: Outcome, turns: u64) -> Line
     ensures { result ≡ line_of number w outcome turns }
 {
@@ -22,24 +23,20 @@ fn line_of(number: u32, w: u32, outcome: Outcome, turns: u64) -> Line
 pub fn begun(number: u32, w: u32, counts: [u64; 8], reply: Reply) -> Played
     ensures { result ≡ played reply.board (started_counts reply.outcome w counts) (line_of number w reply.outcome 0) }
 {
-    let outcome = reply.outcome;
-    let board = reply.board;
     Played {
-        board,
-        turns: started_counts(outcome, w, counts),
-        line: line_of(number, w, outcome, 0),
+        board: reply.board,
+        turns: started_counts(reply.outcome, w, counts),
+        line: line_of(number, w, reply.outcome, 0),
     }
 }
 
 pub fn ran(number: u32, w: u32, counts: [u64; 8], run: Run) -> Played
     ensures { result ≡ played run.board (set counts w (counted (get_or counts w 0) run.turns)) (line_of number w run.outcome (counted (get_or counts w 0) run.turns)) }
 {
-    let outcome = run.outcome;
-    let board = run.board;
     let all = counted(count_of(counts, w), run.turns);
     Played {
-        board,
+        board: run.board,
         turns: with_count(counts, w, all),
-        line: line_of(number, w, outcome, all),
+        line: line_of(number, w, run.outcome, all),
     }
 }

@@ -2,8 +2,8 @@
 use Rattle.std.proofs.Common.{length, ◌-◌, ◌≤◌}
 use Rattle.byhand.proofs.read_full.Given as goal
 
-abbrev pub invariant-loop-done : goal.invariant-loop-done
-invariant-loop-done g l = l.done ≤ length l.buffer
+abbrev pub invariant-loop-came : goal.invariant-loop-came
+invariant-loop-came g l = l.done ≤ length l.buffer
 
-abbrev pub decreases-loop-done : goal.decreases-loop-done
-decreases-loop-done g l = length l.buffer - l.done
+abbrev pub decreases-loop-came : goal.decreases-loop-came
+decreases-loop-came g l = length l.buffer - l.done
