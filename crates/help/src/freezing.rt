@@ -9,15 +9,15 @@ use tables::{TRY, UNDECIDED};
 const SECOND: u32 = 2;
 
 // On to a step with no effect, outside the list.
-pub fn reads(s: HelpStep) -> Option<Option<HelpMove>>
+pub fn reads(s: HelpStep) -> Option<HelpMove>
     ensures { result ≡ reads s }
 {
-    Some(Some(HelpMove::Goes(Effect::Nothing, 0, s)))
+    Some(HelpMove::Goes(Effect::Nothing, 0, s))
 }
 
 // Line 111: the handshake.
 #[tactic(auto, unfolding(steps::specs::Help::counter111, laws::specs::Choice::pick))]
-pub fn counter111(totals: Totals, records: &[u32], r: RecordNo) -> Option<Option<HelpMove>>
+pub fn counter111(totals: Totals, records: &[u32], r: RecordNo) -> Option<HelpMove>
     ensures { result ≡ counter111 totals records.now r }
 {
     let seq = fields::seq_at(records, r);
@@ -42,15 +42,15 @@ pub fn state_cas(records: &[u32], r: RecordNo, s: u32) -> Effect
 
 // Lines 114 and 115.
 #[tactic(auto, unfolding(steps::specs::Help::state114, laws::specs::Choice::pick))]
-pub fn state114(records: &[u32], r: RecordNo) -> Option<Option<HelpMove>>
+pub fn state114(records: &[u32], r: RecordNo) -> Option<HelpMove>
     ensures { result ≡ state114 records.now r }
 {
     if fields::state_at(records, r) == TRY {
-        Some(Some(HelpMove::Goes(
+        Some(HelpMove::Goes(
             Effect::Nothing,
             SECOND,
             HelpStep::Freeze117,
-        )))
+        ))
     } else {
         reads(HelpStep::State125)
     }
@@ -74,7 +74,7 @@ pub fn freeze_cas(nodes: &[u32], records: &[u32], r: RecordNo, i: u32) -> Effect
 
 // Lines 119 and 120, then 115 or 122.
 #[tactic(auto, unfolding(steps::specs::Help::frozen119, laws::specs::Choice::pick))]
-pub fn frozen119(nodes: &[u32], records: &[u32], r: RecordNo, i: u32) -> Option<Option<HelpMove>>
+pub fn frozen119(nodes: &[u32], records: &[u32], r: RecordNo, i: u32) -> Option<HelpMove>
     ensures { result ≡ frozen119 nodes.now records.now r i }
 {
     let e = fields::entry_at(records, r, i);
@@ -83,7 +83,7 @@ pub fn frozen119(nodes: &[u32], records: &[u32], r: RecordNo, i: u32) -> Option<
         return reads(HelpStep::State125);
     }
     if i < fields::count_at(records, r) {
-        Some(Some(HelpMove::Goes(Effect::Nothing, i + 1, HelpStep::Freeze117)))
+        Some(HelpMove::Goes(Effect::Nothing, i + 1, HelpStep::Freeze117))
     } else {
         reads(HelpStep::Child123)
     }

@@ -22,7 +22,7 @@ fn help_step(
     r: RecordNo,
     i: u32,
     b: HelpStep,
-) -> Option<Option<HelpMove>>
+) -> Option<HelpMove>
     ensures { result ≡ help_step (tables totals nodes.now records.now) r i b }
 {
     let (effect, next_i, next) = match b {
@@ -32,7 +32,7 @@ fn help_step(
         HelpStep::State125 => return state125(records, r),
         HelpStep::State127 => {
             let done = fields::state_at(records, r) == COMMIT;
-            return Some(Some(HelpMove::Done(done)));
+            return Some(HelpMove::Done(done));
         }
         HelpStep::Abort112 => (state_cas(records, r, ABORT), 0, HelpStep::State114),
         HelpStep::Try113 => (state_cas(records, r, TRY), 0, HelpStep::State114),
@@ -41,7 +41,7 @@ fn help_step(
         HelpStep::Commit124 => (Effect::SetState(r, COMMIT), 0, HelpStep::State127),
         HelpStep::Abort126 => (Effect::SetState(r, ABORT), 0, HelpStep::State127),
     };
-    Some(Some(HelpMove::Goes(effect, next_i, next)))
+    Some(HelpMove::Goes(effect, next_i, next))
 }
 
 // Helping the dummy or an unfilled record is crooked in each turn.
@@ -53,7 +53,7 @@ pub fn help_of(
     r: RecordNo,
     i: u32,
     b: HelpStep,
-) -> Option<Option<HelpMove>>
+) -> Option<HelpMove>
     ensures { result ≡ help_of (tables totals nodes.now records.now) r i b }
 {
     if fields::helpable(records, r) {
@@ -75,11 +75,11 @@ fn back_to(b: Back, v: Locals, done: bool) -> Decision
 }
 
 #[tactic(auto, unfolding(steps::specs::Help::help_next))]
-pub fn help_next(b: Back, v: Locals, m: Option<Option<HelpMove>>) -> Decision
+pub fn help_next(b: Back, v: Locals, m: Option<HelpMove>) -> Decision
     ensures { result ≡ help_next b v m }
 {
     match m? {
-        Some(HelpMove::Goes(e, i, s)) => hand::decide_to(e, hand::with_i(v, i), Place::Help(s, b)),
-        Some(HelpMove::Done(done)) => back_to(b, v, done),
+        HelpMove::Goes(e, i, s) => hand::decide_to(e, hand::with_i(v, i), Place::Help(s, b)),
+        HelpMove::Done(done) => back_to(b, v, done),
     }
 }

@@ -33,7 +33,7 @@ pub fn child123(nodes: &[u32], records: &[u32], r: RecordNo) -> Effect
 
 // Line 125.
 #[tactic(auto, unfolding(steps::specs::Help::state125, laws::specs::Choice::pick))]
-pub fn state125(records: &[u32], r: RecordNo) -> Option<Option<HelpMove>>
+pub fn state125(records: &[u32], r: RecordNo) -> Option<HelpMove>
     ensures { result ≡ state125 records.now r }
 {
     if fields::state_at(records, r) == TRY {

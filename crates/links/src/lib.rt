@@ -33,14 +33,14 @@ fn held(totals: Totals, nodes: &[u32], v: Locals, a: Link) -> Decision
 }
 
 #[tactic(auto, unfolding(steps::specs::Attempt::link_next))]
-fn link_next(totals: Totals, nodes: &[u32], v: Locals, a: Link, m: Option<Option<LinkMove>>) -> Decision
+fn link_next(totals: Totals, nodes: &[u32], v: Locals, a: Link, m: Option<LinkMove>) -> Decision
     ensures { result ≡ link_next totals nodes.now v a m }
 {
     match m? {
-        Some(LinkMove::Goes(s, u)) => hand::go_to(hand::with_up(v, u), Place::Link(a, s)),
-        Some(LinkMove::Helps(r)) => hand::help_then_retry(r),
-        Some(LinkMove::Fails) => hand::retry(),
-        Some(LinkMove::Holds) => held(totals, nodes, v, a),
+        LinkMove::Goes(s, u) => hand::go_to(hand::with_up(v, u), Place::Link(a, s)),
+        LinkMove::Helps(r) => hand::help_then_retry(r),
+        LinkMove::Fails => hand::retry(),
+        LinkMove::Holds => held(totals, nodes, v, a),
     }
 }
 

@@ -6,21 +6,21 @@ use crate::search::goes_left;
 use shapes::{Key, Link, LinkMove, LinkStep, Locals, NodeNo, Update};
 
 #[tactic(auto, unfolding(steps::specs::Validate::word52))]
-fn word52(nodes: &[u32], parent: Option<NodeNo>) -> Option<Option<LinkMove>>
+fn word52(nodes: &[u32], parent: Option<NodeNo>) -> Option<LinkMove>
     ensures { result ≡ word52 nodes.now parent }
 {
     let word = fields::update_at(nodes, parent?);
-    Some(Some(LinkMove::Goes(LinkStep::State53, word)))
+    Some(LinkMove::Goes(LinkStep::State53, word))
 }
 
 #[tactic(auto, unfolding(steps::specs::Validate::state53, laws::specs::Choice::pick))]
-fn state53(records: &[u32], up: Update) -> Option<Option<LinkMove>>
+fn state53(records: &[u32], up: Update) -> Option<LinkMove>
     ensures { result ≡ state53 records.now up }
 {
     if hand::is_frozen(records, up) {
-        Some(Some(LinkMove::Helps(up.info)))
+        Some(LinkMove::Helps(up.info))
     } else {
-        Some(Some(LinkMove::Goes(LinkStep::Child57, up)))
+        Some(LinkMove::Goes(LinkStep::Child57, up))
     }
 }
 
@@ -30,16 +30,16 @@ fn child57(
     parent: Option<NodeNo>,
     child: Option<NodeNo>,
     left: bool,
-) -> Option<Option<LinkMove>>
+) -> Option<LinkMove>
     ensures { result ≡ child57 nodes.now parent child left }
 {
     let x = parent?;
     let c = child?;
     let newest = fields::child_at(nodes, x, left);
     if fields::same_node(newest, c) {
-        Some(Some(LinkMove::Holds))
+        Some(LinkMove::Holds)
     } else {
-        Some(Some(LinkMove::Fails))
+        Some(LinkMove::Fails)
     }
 }
 
@@ -52,7 +52,7 @@ pub fn link_of(
     left: bool,
     up: Update,
     step: LinkStep,
-) -> Option<Option<LinkMove>>
+) -> Option<LinkMove>
     ensures { result ≡ link_of nodes.now records.now parent child left up step }
 {
     match step {
