@@ -16,6 +16,7 @@ use shapes::{Effect, Totals};
 use tables::{DELETE_TAKES, INSERT_TAKES, UNDECIDED};
 pub use totals::within;
 
+#[tactic(auto, unfolding(steps::specs::Apply::apply))]
 fn carried_out(e: Effect, totals: Totals, nodes: &mut [u32], records: &mut [u32]) -> Totals
     requires { WithinSizes totals }
     ensures { tables result nodes.new records.new ≡ apply e (tables totals nodes.old records.old) }
@@ -33,7 +34,7 @@ fn carried_out(e: Effect, totals: Totals, nodes: &mut [u32], records: &mut [u32]
             taken_record(records, totals.records);
             taken(totals, DELETE_TAKES)
         }
-        Effect::CopyChild(x, left, c) => {
+        Effect::CopyChild(x, left, c) | Effect::Link(x, left, c) => {
             set_child(nodes, x, left, c);
             totals
         }
@@ -47,10 +48,6 @@ fn carried_out(e: Effect, totals: Totals, nodes: &mut [u32], records: &mut [u32]
         }
         Effect::SetState(r, state) => {
             set_state(records, r, state);
-            totals
-        }
-        Effect::Link(x, left, c) => {
-            set_child(nodes, x, left, c);
             totals
         }
     }

@@ -18,6 +18,7 @@ fn finite(k: Key) -> Rank
 }
 
 // Line 163: the larger key at the top, the smaller one on the left.
+#[tactic(auto, unfolding(steps::specs::Apply::top_of, laws::specs::Choice::pick))]
 fn top_of(
     nodes: &mut [u32],
     new: NodeNo,
@@ -39,6 +40,7 @@ fn top_of(
 }
 
 // Lines 161 to 163; l's key is read before any row is written.
+#[tactic(auto, unfolding(steps::specs::Apply::three_nodes))]
 pub fn three_nodes(nodes: &mut [u32], u: u32, k: Key, l: NodeNo, q: Phase)
     requires { u ≤ most_n }
     ensures { nodes.new ≡ three_nodes nodes.old u k l q }
@@ -54,6 +56,7 @@ pub fn three_nodes(nodes: &mut [u32], u: u32, k: Key, l: NodeNo, q: Phase)
 }
 
 // Line 185: the sibling's kind and key, prev p.
+#[tactic(auto, unfolding(steps::specs::Apply::copy_of))]
 pub fn copy_of(nodes: &mut [u32], u: u32, sibling: NodeNo, p: NodeNo, q: Phase)
     ensures { nodes.new ≡ copy_of nodes.old u sibling p q }
 {
@@ -63,6 +66,7 @@ pub fn copy_of(nodes: &mut [u32], u: u32, sibling: NodeNo, p: NodeNo, q: Phase)
     new_node(nodes, NodeNo(u), kind, b, q, Some(p), none, none);
 }
 
+#[tactic(auto, unfolding(steps::specs::Apply::taken_record))]
 pub fn taken_record(records: &mut [u32], u: u32)
     ensures { records.new ≡ taken_record records.old u }
 {

@@ -13,23 +13,27 @@ pub fn within(t: Totals) -> bool
     (t.nodes <= MOST_NODES) & (t.records <= MOST_RECORDS) & (t.counter <= LAST_PHASE)
 }
 
+#[tactic(auto, unfolding(steps::specs::Apply::bumped))]
 pub fn bumped(t: Totals) -> Totals
     requires { WithinSizes t }
     ensures { result ≡ bumped t }
 {
-    let mut next = t;
-    next.counter = t.counter + 1;
-    next
+    Totals {
+        counter: t.counter + 1,
+        ..t
+    }
 }
 
 // So many nodes more and a record more are used.
+#[tactic(auto, unfolding(steps::specs::Apply::taken))]
 pub fn taken(t: Totals, nodes: u32) -> Totals
     requires within_sizes { WithinSizes t }
     requires nodes_bound { nodes ≤ 3 }
     ensures { result ≡ taken t nodes }
 {
-    let mut next = t;
-    next.nodes = t.nodes + nodes;
-    next.records = t.records + 1;
-    next
+    Totals {
+        nodes: t.nodes + nodes,
+        records: t.records + 1,
+        ..t
+    }
 }

@@ -18,6 +18,7 @@ pub use taking::{
 };
 
 // Lines 90 and 91: a FLAG in progress, or a MARK that is not aborted.
+#[tactic(auto, unfolding(steps::specs::Execute::frozen, laws::specs::Choice::pick))]
 pub fn is_frozen(rs: &[u32], u: Update) -> bool
     ensures { result ≡ frozen rs.now u }
 {
