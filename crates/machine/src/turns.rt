@@ -50,10 +50,8 @@ pub fn turn(
     ensures { left result nodes.new records.new pending.new found.new ≡ turn_of (world board nodes.old records.old pending.old found.old) w }
 {
     let r = run(board, w, 1, nodes, records, pending, found);
-    let after = r.board;
-    let outcome = r.outcome;
     Reply {
-        board: after,
-        outcome,
+        board: r.board,
+        outcome: r.outcome,
     }
 }

@@ -26,18 +26,17 @@ fn list_place(w: u32, n: u32) -> usize
 }
 
 // Where the keys that a line lists stand among the found keys.
+#[tactic(auto, unfolding(crate::specs::Whole::keys_place, tables::specs::World::spot))]
 pub fn keys_place(totals: Totals, line: Line) -> usize
     ensures { result ≡ keys_place totals line }
 {
     match line {
         Line::Answered(_, w, _, _) => list_place(w, totals.n),
-        Line::Quiet => 0,
-        Line::Refused(_, _, _) => 0,
-        Line::End(_, _, _, _) => 0,
-        Line::Bad(_) => 0,
+        Line::Quiet | Line::Refused(_, _, _) | Line::End(_, _, _, _) | Line::Bad(_) => 0,
     }
 }
 
+#[tactic(auto, unfolding(crate::specs::Whole::end_line))]
 pub fn end_line(commands: u32, totals: Totals) -> Line
     ensures { result ≡ end_line commands totals }
 {

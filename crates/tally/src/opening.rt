@@ -6,6 +6,7 @@ use fields::idle;
 use shapes::{Board, Totals};
 
 // No sizes, no worker that holds anything: `fresh` makes a board of it.
+#[tactic(auto, unfolding(crate::specs::Whole::lent))]
 pub fn no_board() -> Board
     ensures { result ≡ lent.board }
 {
