@@ -19,6 +19,7 @@ pub struct Played {
 }
 
 // Two numbers of 32 bits, so the product fits.
+#[tactic(auto, using(tables::specs::Places::row_fits))]
 fn list_place(w: u32, n: u32) -> usize
     ensures { result ≡ w * n }
 {

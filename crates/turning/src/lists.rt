@@ -8,6 +8,7 @@ ghost use Rattle.steps.specs.Turn.{pending_left, found_left, pushed, added};
 use shapes::{Key, NodeNo, PendingChange, Totals};
 
 // Three numbers of 32 bits, so no sum wraps.
+#[tactic(auto, using(tables::specs::Places::row_fits), unfolding(tables::specs::World::spot))]
 pub fn spot(totals: Totals, w: u32, i: u32) -> usize
     ensures { result ≡ spot totals w i }
 {

@@ -14,6 +14,7 @@ use shapes::{Board, Operation, Refusal, Reply, Step, Worker};
 use tables::MOST_NODES;
 
 // What a turn adds to is small enough: the totals, and the counts of a worker that is one of P.
+#[tactic(auto, unfolding(crate::specs::Fits::fits))]
 fn fits(board: Board, w: u32) -> bool
     ensures { result ≡ fits board w }
 {
