@@ -1,16 +1,13 @@
 -- Every signed number of a width has one code of that width, and every number of the width is the code of exactly one. Over any width.
-use Rattle.std.specs.Prelude.{◌≡◌, refl, List, ◌++◌, ℕ, suc, ◌+◌, ◌*◌, ◌-◌, ◌/◌, ◌%◌, eqb, ℤ, pos, negsuc, ◌*ℤ◌, ◌-ℤ◌, length, take}
+use Rattle.std.specs.Prelude.{◌≡◌, refl, List, ◌++◌, ℕ, suc, ◌+◌, ◌*◌, ◌-◌, ◌/◌, ◌%◌, eqb, ℤ, pos, negsuc, ◌*ℤ◌, ◌-ℤ◌, length, take, Ok, Err}
 use Rattle.std.proofs.Common.{sym, ap, ◌∙◌, arith, Fits, SFits, le-ltb, eq-eqb, ne_eqb, eqb-true}
 use Rattle.std.specs.Int.{Width, w32}
 use mir.ValLaws.{pow-bits}
 use Rattle.std.proofs.lemmas.Bool.{eqb-false}
 use Rattle.laws.specs.Choice.{fork, pick_true, pick_false}
 use Rattle.laws.specs.Parts.{Below}
-use Rattle.groups.specs.Format.{code_of, signed_of, decoded, bits, groups_of, read_of, read_signed_of}
+use Rattle.groups.specs.Format.{code_of, signed_of, decoded, bits, groups_of, read_of, read_signed_of, Reading}
 use Rattle.groups.specs.RoundTrip.{written_reads, read_is_written}
-use Rattle.groups.specs.declared.Reading.{Reading}
-use Rattle.groups.specs.declared.Reading.TheVariants.{Number, Faulty}
-use Rattle.groups.specs.declared.SignedReading.TheVariants as signed
 
 -- "n is sent as 2n, or −2n − 1 when negative"
 pub sent_natural : (n : ℕ) → pos (code_of (pos n)) ≡ pos 2 *ℤ pos n
@@ -57,14 +54,16 @@ one_code y z e = sym (signed_code y) ∙ ap signed_of e ∙ signed_code z
 -- ---- signed numbers in groups
 
 -- a signed number reads where its code does
-pub decoded_code : (r : Reading) (z : ℤ) (taken : ℕ) → decoded r ≡ signed.Number z taken → r ≡ Number (code_of z) taken
+pub decoded_code : (r : Reading) (z : ℤ) (taken : ℕ) → decoded r ≡ Ok (z, taken) → r ≡ Ok (code_of z, taken)
 unfolding decoded
-decoded_code (Number c k) z taken e = cc (code_signed c)
-decoded_code (Faulty fault) z taken e = cc
+decoded_code (Ok (c, k)) z taken e =
+    let same : ◌≡◌ {A = ℤ × ℕ} (signed_of c, k) (z, taken) = cc in
+    rw (← ap (λ p. p.0) same, ← ap (λ p. p.1) same, code_signed c)
+decoded_code (Err fault) z taken e = cc
 
-pub written_signed-reads : (z : ℤ) (rest : List ℕ) → SFits w32 z → read_signed_of (groups_of (code_of z) ++ rest) ≡ signed.Number z (length (groups_of (code_of z)))
+pub written_signed-reads : (z : ℤ) (rest : List ℕ) → SFits w32 z → read_signed_of (groups_of (code_of z) ++ rest) ≡ Ok (z, length (groups_of (code_of z)))
 unfolding decoded
 written_signed-reads z rest f = rw (written_reads bits (code_of z) rest (code_fits w32 z f).fits, signed_code z)
 
-pub read_signed_is_written : (s : List ℕ) → Below 256 s → {z : ℤ} {taken : ℕ} → read_signed_of s ≡ signed.Number z taken → take taken s ≡ groups_of (code_of z)
+pub read_signed_is_written : (s : List ℕ) → Below 256 s → {z : ℤ} {taken : ℕ} → read_signed_of s ≡ Ok (z, taken) → take taken s ≡ groups_of (code_of z)
 read_signed_is_written s b {z} {taken} e = read_is_written bits s b (decoded_code (read_of s) z taken e)

@@ -1,16 +1,25 @@
 -- Numbers in groups of seven bits (01, "The schedule"): how a number is spelled, what bytes read as, what a writing leaves, how signed
 -- numbers are sent. Over any width in bits; the schedule's 32 stand at the end.
-use Rattle.std.specs.Prelude.{List, [], ◌∷◌, ℕ, zero, suc, ◌+◌, ◌*◌, ◌-◌, ◌/◌, ◌%◌, ◌^◌, ltb, leb, eqb, ℤ, pos, negsuc, length}
+use Rattle.std.specs.Prelude.{List, [], ◌∷◌, ℕ, zero, suc, ◌+◌, ◌*◌, ◌-◌, ◌/◌, ◌%◌, ◌^◌, ltb, leb, eqb, ℤ, pos, negsuc, length, Result, Ok, Err}
 use Rattle.std.proofs.lemmas.List.Edits.{sets}
 use Rattle.laws.specs.Choice.{pick}
 use Rattle.groups.specs.declared.Fault.{Fault}
 use Rattle.groups.specs.declared.Fault.TheVariants.{CutShort, NotShortest, TooLong, TooLarge}
-use Rattle.groups.specs.declared.Reading.{Reading}
-use Rattle.groups.specs.declared.Reading.TheVariants.{Number, Faulty}
-use Rattle.groups.specs.declared.SignedReading.{SignedReading}
-use Rattle.groups.specs.declared.SignedReading.TheVariants as signed
-use Rattle.groups.specs.declared.Written.{Written}
-use Rattle.groups.specs.declared.Written.TheVariants.{End, TooShort}
+use Rattle.groups.specs.declared.TooShort.{TooShort}
+
+-- a number and how many bytes it took, so where the rest begins; or why there is none
+abbrev pub Reading : Type 0
+Reading = Result (ℕ × ℕ) Fault
+
+abbrev pub SignedReading : Type 0
+SignedReading = Result (ℤ × ℕ) Fault
+
+-- where the bytes written end, or that there is no room for them
+abbrev pub Written : Type 0
+Written = Result ℕ TooShort
+
+abbrev pub too_short : TooShort
+too_short = record {}
 
 -- "groups of seven bits": so many values; "top bit set when another follows": so much is added
 abbrev pub group : ℕ
@@ -35,27 +44,22 @@ spelled width n = spelling (most_groups width) n
 
 -- a value that so many bits hold, "too large" if they do not
 unfoldable pub held : ℕ → ℕ → ℕ → Reading
-held width value taken = pick (ltb value (2 ^ width)) (Number value taken) (Faulty TooLarge)
+held width value taken = pick (ltb value (2 ^ width)) (Ok (value, taken)) (Err TooLarge)
 
 -- a group with what was read after it; "shortest form only": that is not 0
 unfoldable pub joined : ℕ → ℕ → Reading → Reading
-joined width byte (Number above taken) = pick (eqb above 0) (Faulty NotShortest) (held width (byte - group + group * above) (taken + 1))
-joined width byte (Faulty fault) = Faulty fault
+joined width byte (Ok (above, taken)) = pick (eqb above 0) (Err NotShortest) (held width (byte - group + group * above) (taken + 1))
+joined width byte (Err fault) = Err fault
 
 -- the number at the front of the bytes: "too long" if it takes more than k groups, "cut short" if the bytes end in it
 unfoldable pub read_up_to : ℕ → ℕ → List ℕ → Reading
-read_up_to width zero s = Faulty TooLong
-read_up_to width (suc k) [] = Faulty CutShort
+read_up_to width zero s = Err TooLong
+read_up_to width (suc k) [] = Err CutShort
 read_up_to width (suc k) (byte ∷ s) = let more = read_up_to width k s in pick (ltb byte group) (held width byte 1) (joined width byte more)
 
 -- a number of so many bits
 unfoldable pub reading : ℕ → List ℕ → Reading
 reading width s = read_up_to width (most_groups width) s
-
--- the fault of a reading; there is none in a number, and the first stands for it
-unfoldable pub fault_of : Reading → Fault
-fault_of (Number value taken) = CutShort
-fault_of (Faulty fault) = fault
 
 -- ---- writing
 
@@ -69,7 +73,7 @@ left answer buffer = record { answer = answer; buffer = buffer }
 
 -- bytes written at a place of a buffer, or the buffer as it was where it is too short for them
 unfoldable pub put : List ℕ → List ℕ → ℕ → Left
-put bytes buffer at = pick (leb (at + length bytes) (length buffer)) (left (End (at + length bytes)) (sets buffer at bytes)) (left TooShort buffer)
+put bytes buffer at = pick (leb (at + length bytes) (length buffer)) (left (Ok (at + length bytes)) (sets buffer at bytes)) (left (Err too_short) buffer)
 
 -- ---- signed numbers
 
@@ -84,8 +88,8 @@ signed_of code = pick (eqb (code % 2) 0) (pos (code / 2)) (negsuc (code / 2))
 
 -- "Keys, a and b are signed": what was read is a code
 unfoldable pub decoded : Reading → SignedReading
-decoded (Number code taken) = signed.Number (signed_of code) taken
-decoded (Faulty fault) = signed.Faulty fault
+decoded (Ok (code, taken)) = Ok (signed_of code, taken)
+decoded (Err fault) = Err fault
 
 -- ---- the format of the schedule: "at most 4,294,967,295", so 32 bits
 

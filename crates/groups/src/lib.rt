@@ -21,7 +21,7 @@ const FOUR_GROUPS: u32 = 268_435_456;
 pub const MOST_GROUPS: usize = 5;
 
 // Why bytes are no number.
-#[derive(Clone, Copy)]
+#[derive(Clone, Copy, Debug, PartialEq, Eq)]
 pub enum Fault {
     CutShort,
     NotShortest,
@@ -29,25 +29,9 @@ pub enum Fault {
     TooLarge,
 }
 
-// A number and how many bytes it took, so where the rest begins; or why there is none.
-#[derive(Clone, Copy)]
-pub enum Reading {
-    Number(u32, usize),
-    Faulty(Fault),
-}
-
-#[derive(Clone, Copy)]
-pub enum SignedReading {
-    Number(i32, usize),
-    Faulty(Fault),
-}
-
-// Where the bytes written end, or that there is no room for them.
-#[derive(Clone, Copy)]
-pub enum Written {
-    End(usize),
-    TooShort,
-}
+// A buffer has no room for what was to be written into it.
+#[derive(Clone, Copy, Debug, PartialEq, Eq)]
+pub struct TooShort;
 
 // How many groups a number takes.
 pub fn length(n: u32) -> usize
@@ -69,6 +53,7 @@ pub fn length(n: u32) -> usize
 }
 
 // A signed number as it is sent: 2n, or -2n - 1 when negative.
+#[tactic(auto, using(crate::proofs::Signs::by_sign))]
 pub fn code(n: i32) -> u32
     ensures { result ≡ code_of n }
 {
@@ -79,6 +64,7 @@ pub fn code(n: i32) -> u32
 }
 
 // The signed number that is sent so.
+#[tactic(auto, using(crate::proofs::Signs::by_parity))]
 pub fn signed(c: u32) -> i32
     ensures { result ≡ signed_of c }
 {

@@ -7,9 +7,8 @@ use native.Mathlib.Omega.{arith}
 use lib.ListN.{length, take, drop, length-append}
 use lib.Seq.{take-append_seam}
 use Rattle.leaves.specs.Table.{IsPrefixLen}
-use Rattle.groups.specs.Format.{left, put}
+use Rattle.groups.specs.Format.{Written, left, put}
 use Rattle.groups.specs.Writing.{put-between}
-use Rattle.groups.specs.declared.Written.{Written}
 
 -- so many bytes are counted there, and they are these
 pub in_front : (bytes buffer after : List ℕ) (r : Written) → left r after ≡ put bytes buffer 0 → length bytes ≤ length buffer → IsPrefixLen (length bytes) after × (take (length bytes) after ≡ bytes)

@@ -3,7 +3,7 @@ ghost use Rattle.std.specs.Prelude.{◌≡◌, ◌≤◌, length, take};
 ghost use Rattle.groups.specs.Format.{groups_of, code_of, left};
 ghost use Rattle.leaves.specs.Table.{IsPrefixLen, write_in_front};
 
-use groups::Written;
+use groups::TooShort;
 
 // What is written into; a count never exceeds it.
 pub const BUFFER_SIZE: usize = 8;
@@ -16,7 +16,7 @@ pub fn spell(n: u32, buffer: &mut [u8; BUFFER_SIZE]) -> usize
     ensures prefix_len { IsPrefixLen result buffer.new }
     ensures buffer_after { take result buffer.new ≡ groups_of n }
 {
-    pack::write(n, buffer, 0);
+    let _ = pack::write(n, buffer, 0);
     groups::length(n)
 }
 
@@ -24,12 +24,12 @@ pub fn spell_signed(n: i32, buffer: &mut [u8; BUFFER_SIZE]) -> usize
     ensures prefix_len { IsPrefixLen result buffer.new }
     ensures buffer_after { take result buffer.new ≡ groups_of (code_of n) }
 {
-    pack::write_signed(n, buffer, 0);
+    let _ = pack::write_signed(n, buffer, 0);
     groups::length(groups::code(n))
 }
 
 // Writes a number as if the buffer had only so much room: what stands behind that stays.
-pub fn write_in_front(n: u32, buffer: &mut [u8], at: usize, room: usize) -> Written
+pub fn write_in_front(n: u32, buffer: &mut [u8], at: usize, room: usize) -> Result<usize, TooShort>
     requires { room ≤ length buffer.old }
     ensures { left result buffer.new ≡ write_in_front n buffer.old at room }
 {

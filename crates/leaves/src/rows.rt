@@ -5,7 +5,7 @@ use crate::buffers::{BUFFER_SIZE, UNWRITTEN, spell, spell_signed, write_in_front
 use crate::telling::{
     say, say_bytes, say_count, say_fault, say_key_refusal, say_number, say_signed, say_size_refusal,
 };
-use groups::{Reading, SignedReading, Written};
+use groups::TooShort;
 use laps::{KeyAnswer, LapAnswer, PadAnswer};
 
 pub fn show_number(rt: &impl Print, n: u32) {
@@ -33,12 +33,12 @@ pub fn show_reading(rt: &impl Print, bytes: &[u8]) {
     say_bytes(rt, bytes);
     say(rt, b" = ");
     match unpack::read(bytes) {
-        Reading::Number(n, taken) => {
+        Ok((n, taken)) => {
             say_number(rt, n);
             say(rt, b" ");
             say_count(rt, taken);
         }
-        Reading::Faulty(fault) => say_fault(rt, fault),
+        Err(fault) => say_fault(rt, fault),
     }
 }
 
@@ -47,12 +47,12 @@ pub fn show_signed_reading(rt: &impl Print, bytes: &[u8]) {
     say_bytes(rt, bytes);
     say(rt, b" = ");
     match unpack::read_signed(bytes) {
-        SignedReading::Number(n, taken) => {
+        Ok((n, taken)) => {
             say_signed(rt, n);
             say(rt, b" ");
             say_count(rt, taken);
         }
-        SignedReading::Faulty(fault) => say_fault(rt, fault),
+        Err(fault) => say_fault(rt, fault),
     }
 }
 
@@ -68,8 +68,8 @@ pub fn show_writing(rt: &impl Print, n: u32, at: usize, room: usize)
     say(rt, b" = ");
     let mut buffer = [UNWRITTEN; BUFFER_SIZE];
     match write_in_front(n, &mut buffer, at, room) {
-        Written::End(end) => say_count(rt, end),
-        Written::TooShort => say_size_refusal(rt),
+        Ok(end) => say_count(rt, end),
+        Err(TooShort) => say_size_refusal(rt),
     }
     say_bytes(rt, &buffer);
 }

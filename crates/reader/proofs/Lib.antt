@@ -1,2 +1,4 @@
 pub mod Behind
+pub mod Sizes
+pub mod ByKind
 pub mod ByThree

@@ -1,10 +1,11 @@
 -- Whole schedules: the bytes that read as a schedule are exactly those that the format says it is.
-use Rattle.std.specs.Prelude.{◌≡◌, refl, List, [], ◌∷◌, ◌++◌, true, ℕ, zero, suc, ◌≤◌, eqb, length, drop}
+use Rattle.std.specs.Prelude.{◌≡◌, refl, List, [], ◌∷◌, ◌++◌, true, ℕ, zero, suc, ◌≤◌, eqb, length, drop, Some, None}
 use Rattle.std.proofs.Common.{sym, ap, subst, ◌∙◌, arith, length-append, take-append-drop, eqb-true, ne_eqb}
 use Rattle.std.proofs.Math.Seq.{drop-append_seam}
 use Rattle.laws.specs.Choice.{pick, pick_false, fork}
 use Rattle.laws.specs.Parts.{Below}
 use Rattle.tables.specs.Fresh.{sizes_ok}
+use Rattle.schedule.specs.Answers.{opening, OpeningReading, CommandReading}
 use Rattle.schedule.specs.Numbers.{most_bytes}
 use Rattle.schedule.specs.Format.{command_bytes, opening_bytes, Schedule, all_bytes, schedule_bytes, EachProper, Is}
 use Rattle.schedule.specs.Reading.{opening_at, command_at, Listed, listed, broken, before, handed_on, commands_in, ScheduleReading, reads, faulty, with_sizes, opened, schedule_at}
@@ -14,10 +15,6 @@ use Rattle.schedule.specs.Commands.{command_reads, command_some}
 use Rattle.schedule.specs.Whole.{Relisted}
 use Rattle.schedule.proofs.Standing.{command_stands, command_rewritten}
 use Rattle.schedule.specs.declared.Command.{Command}
-use Rattle.schedule.specs.declared.CommandReading.{CommandReading}
-use Rattle.schedule.specs.declared.CommandReading.TheVariants as command
-use Rattle.schedule.specs.declared.OpeningReading.{OpeningReading}
-use Rattle.schedule.specs.declared.OpeningReading.TheVariants as opening
 
 -- ---- the commands behind the opening
 
@@ -40,7 +37,7 @@ unfolding all_bytes EachProper
 none_left [] e = record { bytes = refl; each = tt }
 none_left (x ∷ s) e = absurd (omega arith)
 
-one-before : (s : List ℕ) → Below 256 s → (c : Command) (end : ℕ) (cs : List Command) → command_at s ≡ command.Read c end → Relisted (drop end s) cs → Relisted s (c ∷ cs)
+one-before : (s : List ℕ) → Below 256 s → (c : Command) (end : ℕ) (cs : List Command) → command_at s ≡ Some (c, end) → Relisted (drop end s) cs → Relisted s (c ∷ cs)
 unfolding all_bytes EachProper
 one-before s b c end cs at rest = record { bytes = sym (take-append-drop end s) ∙ rw (command_rewritten s b c end at, rest.bytes); each = ((command_stands s c end at).proper, rest.each) }
 
@@ -48,8 +45,8 @@ relisted_by : (k : ℕ) (s : List ℕ) → Below 256 s
     → ((end : ℕ) (cs : List Command) → commands_in k (drop end s) ≡ listed cs → Relisted (drop end s) cs)
     → (r : CommandReading) → command_at s ≡ r → OnListed (Relisted s) (handed_on r (λ end. commands_in k (drop end s)))
 unfolding OnListed handed_on before
-relisted_by k s b rest command.Faulty at = tt
-relisted_by k s b rest (command.Read c end) at = behind (commands_in k (drop end s)) refl
+relisted_by k s b rest None at = tt
+relisted_by k s b rest (Some (c, end)) at = behind (commands_in k (drop end s)) refl
   where
     behind : (x : Listed) → commands_in k (drop end s) ≡ x → OnListed (Relisted s) (before c x)
     behind broken e = tt
@@ -86,7 +83,7 @@ pub read_is_schedule : (s : List ℕ) → Below 256 s → (x : Schedule) → sch
 unfolding schedule_bytes schedule_at opened with_sizes OnSchedule
 read_is_schedule s b x e = subst (OnSchedule (Is s)) e (by (opening_at s) refl)
   where
-    behind : (n m p end : ℕ) → opening_at s ≡ opening.Read n m p end → (l : Listed) → commands_in (length s) (drop end s) ≡ l → OnSchedule (Is s) (with_sizes n m p l)
+    behind : (n m p end : ℕ) → opening_at s ≡ Some (opening n m p, end) → (l : Listed) → commands_in (length s) (drop end s) ≡ l → OnSchedule (Is s) (with_sizes n m p l)
     behind n m p end head broken at = tt
     behind n m p end head (listed cs) at =
         let tail : Relisted (drop end s) cs = commands_rewritten (length s) (drop end s) (below-drop 256 end s b) cs at in
@@ -94,8 +91,8 @@ read_is_schedule s b x e = subst (OnSchedule (Is s)) e (by (opening_at s) refl)
         record { bytes = sym (take-append-drop end s) ∙ rw (opening_rewritten s b n m p end head, tail.bytes); sizes = it.sizes; each = tail.each; few = it.few }
 
     by : (r : OpeningReading) → opening_at s ≡ r → OnSchedule (Is s) (opened r s)
-    by opening.Faulty at = tt
-    by (opening.Read n m p end) at = behind n m p end at (commands_in (length s) (drop end s)) refl
+    by None at = tt
+    by (Some (o, end)) at = behind o.n o.m o.p end at (commands_in (length s) (drop end s)) refl
 
 -- "A fault": exactly what is no schedule by the format
 pub fault_is_none : (s : List ℕ) → schedule_at s ≡ faulty → (x : Schedule) → Is s x → ⊥

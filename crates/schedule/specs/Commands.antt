@@ -1,5 +1,5 @@
 -- A command that is written reads back as itself, whatever follows it.
-use Rattle.std.specs.Prelude.{◌≡◌, refl, true, ℕ, ◌^◌, ◌≤◌, ◌<◌, length}
+use Rattle.std.specs.Prelude.{◌≡◌, refl, true, ℕ, ◌^◌, ◌≤◌, ◌<◌, length, Ok, Some}
 use Rattle.std.proofs.Common.{◌∙◌, arith, length-append, SFits, ltb-true, ne_eqb}
 use mathlib.Core.List.{List, [], ◌∷◌, ◌++◌, append_assoc}
 use Rattle.std.specs.Int.{w32}
@@ -9,14 +9,12 @@ use Rattle.groups.specs.Format.{bits, groups_of, read_of, code_of}
 use Rattle.groups.specs.Spelling.{spelled_some}
 use Rattle.groups.specs.Codes.{signed_code, code_fits}
 use Rattle.groups.specs.RoundTrip.{written_reads}
-use Rattle.groups.specs.declared.Reading.TheVariants.{Number}
 use Rattle.schedule.specs.Numbers.{insert, delete, find, scan, turns}
 use Rattle.schedule.specs.Format.{spelled_all, numbers_of, command_bytes, accepted, Proper}
-use Rattle.schedule.specs.Reading.{found, numbers_in, command_of, built, named, command_at}
+use Rattle.schedule.specs.Reading.{numbers_in, command_of, built, named, command_at}
 use Rattle.schedule.specs.Numerals.{spelled_read}
 use Rattle.schedule.specs.declared.Command.{Command}
 use Rattle.schedule.specs.declared.Command.TheVariants.{Insert, Delete, Find, Scan, Turns}
-use Rattle.schedule.specs.declared.CommandReading.TheVariants as command
 
 -- ---- the commands that code can hold
 
@@ -43,14 +41,14 @@ held_proper (Turns worker n) h ok = record { fits = three_fit turns worker n (om
 -- ---- what is written reads back
 
 -- numbers that are as many as the first says
-numbers_built : (n : ℕ) (ns rest : List ℕ) → Below (2 ^ bits) (n ∷ ns) → numbers_in n ≡ length (n ∷ ns) → command_at (spelled_all (n ∷ ns) ++ rest) ≡ built (found (n ∷ ns) (length (spelled_all (n ∷ ns))))
+numbers_built : (n : ℕ) (ns rest : List ℕ) → Below (2 ^ bits) (n ∷ ns) → numbers_in n ≡ length (n ∷ ns) → command_at (spelled_all (n ∷ ns) ++ rest) ≡ built (Some (n ∷ ns, length (spelled_all (n ∷ ns))))
 unfolding command_at named
 numbers_built n ns rest b many = rw (first, many, spelled_read (n ∷ ns) rest b)
   where
-    first : read_of (spelled_all (n ∷ ns) ++ rest) ≡ Number n (length (groups_of n))
+    first : read_of (spelled_all (n ∷ ns) ++ rest) ≡ Ok (n, length (groups_of n))
     first = unfold spelled_all in rw append_assoc (written_reads bits n (spelled_all ns ++ rest) (below_head (2 ^ bits) n ns b))
 
-pub command_reads : (c : Command) (rest : List ℕ) → Proper c → command_at (command_bytes c ++ rest) ≡ command.Read c (length (command_bytes c))
+pub command_reads : (c : Command) (rest : List ℕ) → Proper c → command_at (command_bytes c ++ rest) ≡ Some (c, length (command_bytes c))
 unfolding command_bytes numbers_of accepted numbers_in built command_of pick
 command_reads (Insert worker key) rest p = numbers_built insert (worker ∷ code_of key ∷ []) rest p.fits refl ∙ rw (signed_code key)
 command_reads (Delete worker key) rest p = numbers_built delete (worker ∷ code_of key ∷ []) rest p.fits refl ∙ rw (signed_code key)

@@ -1,13 +1,8 @@
 -- The numbers of 01 for a command and for each case of an answer, and the length of a schedule.
-use Rattle.std.specs.Prelude.{ℕ}
-use Rattle.schedule.specs.declared.OpeningReading.{OpeningReading}
-use Rattle.schedule.specs.declared.OpeningReading.TheVariants as opening
-use Rattle.schedule.specs.declared.CommandReading.{CommandReading}
-use Rattle.schedule.specs.declared.CommandReading.TheVariants as command
+use Rattle.std.specs.Prelude.{ℕ, Ok, Err, Some, None}
+use Rattle.schedule.specs.Answers.{OpeningReading, CommandReading, Writing}
 use Rattle.schedule.specs.declared.Refusal.{Refusal}
 use Rattle.schedule.specs.declared.Refusal.TheVariants.{File, Size}
-use Rattle.schedule.specs.declared.Writing.{Writing}
-use Rattle.schedule.specs.declared.Writing.TheVariants.{End, Refused}
 
 -- 01, 'Sizes': "Schedule: at most 65,536 bytes"
 abbrev pub most_bytes : ℕ
@@ -35,14 +30,14 @@ refusal_number File = 8
 refusal_number Size = 2
 
 unfoldable pub writing_number : Writing → ℕ
-writing_number (End end) = 0
-writing_number (Refused refusal) = refusal_number refusal
+writing_number (Ok end) = 0
+writing_number (Err refusal) = refusal_number refusal
 
 -- "the next command or the opening does not read"
 unfoldable pub opening_number : OpeningReading → ℕ
-opening_number (opening.Read n m p end) = 0
-opening_number opening.Faulty = refusal_number File
+opening_number (Some read) = 0
+opening_number None = refusal_number File
 
 unfoldable pub command_number : CommandReading → ℕ
-command_number (command.Read c end) = 0
-command_number command.Faulty = refusal_number File
+command_number (Some read) = 0
+command_number None = refusal_number File

@@ -1,18 +1,16 @@
 -- Several numbers, one behind another: what is spelled reads back, and what reads is spelled again as the same bytes.
-use Rattle.std.specs.Prelude.{◌≡◌, List, [], ◌∷◌, ◌++◌, length, take, drop}
+use Rattle.std.specs.Prelude.{◌≡◌, List, [], ◌∷◌, ◌++◌, length, take, drop, Ok, Err, Some, None}
 use Rattle.std.proofs.Math.Path.{refl, sym, subst}
 use Rattle.std.proofs.Common.{ap, ◌∙◌, append_assoc, arith, length-append, length-drop, take-add}
 use Prim.Native.Nat.{ℕ, zero, suc, ◌+◌, ◌^◌, ◌≤◌}
 use Rattle.std.proofs.Math.ListN.{get_or}
 use Rattle.std.proofs.Math.Seq.{drop-append_seam}
 use Rattle.laws.specs.Parts.{Below, below_head, below_tail, below_none, below_cons}
-use Rattle.groups.specs.Format.{bits, groups_of, most_groups, reading, read_of}
+use Rattle.groups.specs.Format.{bits, groups_of, most_groups, reading, read_of, Reading}
 use Rattle.groups.specs.ByteByByte.{Inside, reads_inside}
 use Rattle.groups.specs.RoundTrip.{written_reads, read_is_written}
-use Rattle.groups.specs.declared.Reading.{Reading}
-use Rattle.groups.specs.declared.Reading.TheVariants.{Number, Faulty}
 use Rattle.schedule.specs.Format.{spelled_all}
-use Rattle.schedule.specs.Reading.{Found, found, fault, ahead, followed, numbers_at}
+use Rattle.schedule.specs.Reading.{Found, ahead, followed, numbers_at}
 
 -- ---- so many numbers, each by its place
 
@@ -29,43 +27,50 @@ four [] e = absurd (omega arith)
 
 -- ---- by the first number
 
-pub number_first : (k : ℕ) (s : List ℕ) (n taken : ℕ) → read_of s ≡ Number n taken → numbers_at (suc k) s ≡ ahead n taken (numbers_at k (drop taken s))
+pub number_first : (k : ℕ) (s : List ℕ) (n taken : ℕ) → read_of s ≡ Ok (n, taken) → numbers_at (suc k) s ≡ ahead n taken (numbers_at k (drop taken s))
 unfolding numbers_at followed
 number_first k s n taken e = rw e
 
-pub fault_first : (k : ℕ) (s : List ℕ) {f : _} → read_of s ≡ Faulty f → numbers_at (suc k) s ≡ fault
+pub fault_first : (k : ℕ) (s : List ℕ) {f : _} → read_of s ≡ Err f → numbers_at (suc k) s ≡ None
 unfolding numbers_at followed
 fault_first k s e = rw e
 
 -- a number lies within the bytes and fits 32 bits
-pub number_inside : (s : List ℕ) {n taken : ℕ} → read_of s ≡ Number n taken → Inside bits (most_groups bits) s n taken
+pub number_inside : (s : List ℕ) {n taken : ℕ} → read_of s ≡ Ok (n, taken) → Inside bits (most_groups bits) s n taken
 unfolding reading
 number_inside s e = reads_inside bits (most_groups bits) s e
+
+pub number_there : (s : List ℕ) (n taken : ℕ) → read_of s ≡ Ok (n, taken) → taken ≤ length s
+number_there s n taken e = (number_inside s e).there
+
+pub number_few : (s : List ℕ) (n taken : ℕ) → read_of s ≡ Ok (n, taken) → taken ≤ 5
+unfolding most_groups
+number_few s n taken e = (number_inside s e).few
 
 -- ---- number by number, what holds of all that read
 
 -- a property of numbers and of where they end; a fault has it
 unfoldable OnFound : (List ℕ → ℕ → Type 0) → Found → Type 0
-OnFound P (found ns end) = P ns end
-OnFound P fault = Unit
+OnFound P (Some (ns, end)) = P ns end
+OnFound P None = Unit
 
 module _ (P : ℕ → List ℕ → List ℕ → ℕ → Type 0)
     (none : (s : List ℕ) → P zero s [] 0)
-    (more : (k : ℕ) (s : List ℕ) (n taken : ℕ) (ns : List ℕ) (end : ℕ) → read_of s ≡ Number n taken → P k (drop taken s) ns end → P (suc k) s (n ∷ ns) (taken + end)) where
+    (more : (k : ℕ) (s : List ℕ) (n taken : ℕ) (ns : List ℕ) (end : ℕ) → read_of s ≡ Ok (n, taken) → P k (drop taken s) ns end → P (suc k) s (n ∷ ns) (taken + end)) where
   on_each : (k : ℕ) (s : List ℕ) → OnFound (P k s) (numbers_at k s)
   unfolding numbers_at OnFound followed ahead
   on_each zero s = none s
   on_each (suc k) s = by (read_of s) refl (λ taken. on_each k (drop taken s))
     where
-      behind : (n taken : ℕ) → read_of s ≡ Number n taken → (x : Found) → OnFound (P k (drop taken s)) x → OnFound (P (suc k) s) (ahead n taken x)
-      behind n taken at (found ns end) rest = more k s n taken ns end at rest
-      behind n taken at fault rest = tt
+      behind : (n taken : ℕ) → read_of s ≡ Ok (n, taken) → (x : Found) → OnFound (P k (drop taken s)) x → OnFound (P (suc k) s) (ahead n taken x)
+      behind n taken at (Some (ns, end)) rest = more k s n taken ns end at rest
+      behind n taken at None rest = tt
 
       by : (r : Reading) → read_of s ≡ r → ((taken : ℕ) → OnFound (P k (drop taken s)) (numbers_at k (drop taken s))) → OnFound (P (suc k) s) (followed r (λ taken. numbers_at k (drop taken s)))
-      by (Number n taken) at rest = behind n taken at (numbers_at k (drop taken s)) (rest taken)
-      by (Faulty f) at rest = tt
+      by (Ok (n, taken)) at rest = behind n taken at (numbers_at k (drop taken s)) (rest taken)
+      by (Err f) at rest = tt
 
-  pub each_found : (k : ℕ) (s ns : List ℕ) (end : ℕ) → numbers_at k s ≡ found ns end → P k s ns end
+  pub each_found : (k : ℕ) (s ns : List ℕ) (end : ℕ) → numbers_at k s ≡ Some (ns, end) → P k s ns end
   unfolding OnFound
   each_found k s ns end e = subst (OnFound (P k s)) e (on_each k s)
 
@@ -76,27 +81,24 @@ pub record Counted (k : ℕ) (s ns : List ℕ) (end : ℕ) : Type 0 where
   pub some : k ≤ end
   pub there : end ≤ length s
 
-pub numbers_counted : (k : ℕ) (s ns : List ℕ) (end : ℕ) → numbers_at k s ≡ found ns end → Counted k s ns end
+pub numbers_counted : (k : ℕ) (s ns : List ℕ) (end : ℕ) → numbers_at k s ≡ Some (ns, end) → Counted k s ns end
 numbers_counted = each_found Counted
     (λ s. record { many = refl; fits = below_none (2 ^ bits); some = omega arith; there = omega arith })
     (λ k s n taken ns end at rest. let one : Inside bits (most_groups bits) s n taken = number_inside s at in
     record { many = ap suc rest.many; fits = below_cons (2 ^ bits) n ns one.fits rest.fits; some = omega (arith, rest.some, one.some); there = omega (arith, rest.there, length-drop taken s, one.there) })
 
-pub no_numbers : {ns : List ℕ} {end : ℕ} → fault ≡ found ns end → ⊥
-no_numbers e = let z : ◌≡◌ {A = ℕ} 0 1 = cc in omega arith
-
 -- the first of several numbers is the one that reads
-pub first_is : (k : ℕ) (s ns : List ℕ) (kind taken end : ℕ) → 1 ≤ k → read_of s ≡ Number kind taken → numbers_at k s ≡ found ns end → get_or ns 0 0 ≡ kind
+pub first_is : (k : ℕ) (s ns : List ℕ) (kind taken end : ℕ) → 1 ≤ k → read_of s ≡ Ok (kind, taken) → numbers_at k s ≡ Some (ns, end) → get_or ns 0 0 ≡ kind
 first_is zero s ns kind taken end some at e = absurd (omega arith)
 first_is (suc k) s ns kind taken end some at e = same (numbers_at k (drop taken s)) (sym (number_first k s kind taken at) ∙ e)
   where
-    same : (x : Found) → ahead kind taken x ≡ found ns end → get_or ns 0 0 ≡ kind
-    same (found ms d) e = unfold ahead in (let h : kind ∷ ms ≡ ns = cc in sym (ap (λ l. get_or l 0 0) h))
-    same fault e = unfold ahead in absurd (no_numbers e)
+    same : (x : Found) → ahead kind taken x ≡ Some (ns, end) → get_or ns 0 0 ≡ kind
+    same (Some (ms, d)) e = unfold ahead in (let h : ◌≡◌ {A = List ℕ × ℕ} (kind ∷ ms, taken + d) (ns, end) = cc in sym (ap (λ p. get_or p.0 0 0) h))
+    same None e = unfold ahead in cc
 
 -- ---- what is spelled reads back, whatever follows it
 
-pub spelled_read : (ns rest : List ℕ) → Below (2 ^ bits) ns → numbers_at (length ns) (spelled_all ns ++ rest) ≡ found ns (length (spelled_all ns))
+pub spelled_read : (ns rest : List ℕ) → Below (2 ^ bits) ns → numbers_at (length ns) (spelled_all ns ++ rest) ≡ Some (ns, length (spelled_all ns))
 unfolding numbers_at spelled_all ahead
 spelled_read [] rest b = refl
 spelled_read (n ∷ ns) rest b =
@@ -109,7 +111,7 @@ below-drop bound zero s b = b
 below-drop bound (suc j) [] b = below_none bound
 below-drop bound (suc j) (x ∷ s) b = below-drop bound j s (below_tail bound x s b)
 
-pub read_spelled : (k : ℕ) (s ns : List ℕ) (end : ℕ) → numbers_at k s ≡ found ns end → Below 256 s → take end s ≡ spelled_all ns
+pub read_spelled : (k : ℕ) (s ns : List ℕ) (end : ℕ) → numbers_at k s ≡ Some (ns, end) → Below 256 s → take end s ≡ spelled_all ns
 unfolding spelled_all
 read_spelled = each_found (λ k s ns end. Below 256 s → take end s ≡ spelled_all ns)
     (λ s b. refl)

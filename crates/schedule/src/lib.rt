@@ -5,6 +5,7 @@
 pub const MOST_BYTES: usize = 65_536;
 
 // The number that a command starts with.
+// Stays: no plainer as an enum, since its `TryFrom` would list the same five numbers once more, and a reader or a writer names each once.
 pub const INSERT: u32 = 1;
 
 pub const DELETE: u32 = 2;
@@ -16,7 +17,7 @@ pub const SCAN: u32 = 4;
 pub const TURNS: u32 = 5;
 
 // A command: its worker, then a key, two keys, or a count of turns.
-#[derive(Clone, Copy)]
+#[derive(Clone, Copy, Debug, PartialEq, Eq)]
 pub enum Command {
     Insert(u32, i32),
     Delete(u32, i32),
@@ -25,30 +26,17 @@ pub enum Command {
     Turns(u32, u32),
 }
 
-// N, M, P and where the commands begin; or a fault.
-#[derive(Clone, Copy)]
-pub enum OpeningReading {
-    Read(u32, u32, u32, usize),
-    Faulty,
-}
-
-// A command and where the rest begins; or a fault.
-#[derive(Clone, Copy)]
-pub enum CommandReading {
-    Read(Command, usize),
-    Faulty,
+// The sizes that a schedule opens with.
+#[derive(Clone, Copy, Debug, PartialEq, Eq)]
+pub struct Opening {
+    pub n: u32,
+    pub m: u32,
+    pub p: u32,
 }
 
 // Why nothing was written.
-#[derive(Clone, Copy)]
+#[derive(Clone, Copy, Debug, PartialEq, Eq)]
 pub enum Refusal {
     File,
     Size,
-}
-
-// Where the bytes written end, or why there are none.
-#[derive(Clone, Copy)]
-pub enum Writing {
-    End(usize),
-    Refused(Refusal),
 }

@@ -10,7 +10,6 @@ use input::{Input, read_all, room};
 use lines::Line;
 use playing::play;
 use reader::{read_command, read_opening};
-use schedule::{CommandReading, OpeningReading};
 use shapes::Board;
 use spelling::spell;
 use std::io::{Read, Write};
@@ -86,7 +85,7 @@ fn show_command<W: Write>(
     requires { at ≤ length commands.now }
     ensures { at + result.taken ≤ length commands.now }
 {
-    let CommandReading::Read(command, taken) = read_command(&commands[at..]) else {
+    let Some((command, taken)) = read_command(&commands[at..]) else {
         return say_unread(out, which, board, turns, found);
     };
     let played = play(which, command, board, turns, nodes, records, pending, found);
@@ -130,14 +129,14 @@ pub fn show<W: Write>(out: &mut W, file: &[u8]) -> bool {
     let mut records = [0u32; 11_264];
     let mut pending = [0u32; 8_192];
     let mut found = [0i32; 8_192];
-    let OpeningReading::Read(n, m, p, start) = read_opening(file) else {
+    let Some((opening, start)) = read_opening(file) else {
         return say(out, Line::Bad(0), &found, 0);
     };
     let begun = fresh::fresh(
         no_board(),
-        n,
-        m,
-        p,
+        opening.n,
+        opening.m,
+        opening.p,
         &mut nodes,
         &mut records,
         &mut pending,

@@ -6,6 +6,7 @@ use Rattle.laws.specs.Parts.{below_head, below_tail}
 use Rattle.kept.specs.Spots.{at_set}
 use Rattle.schedule.specs.Numbers.{most_bytes, turns}
 use Rattle.schedule.specs.Format.{numbers_of, Proper}
+use Rattle.schedule.specs.Answers.{OpeningReading, CommandReading}
 use Rattle.schedule.specs.Reading.{opening_at, command_at}
 use Rattle.schedule.specs.Openings.{opening_opens}
 use Rattle.schedule.proofs.Standing.{command_stands}
@@ -16,10 +17,6 @@ use Rattle.tables.specs.Fresh.{Left}
 use Rattle.steps.specs.Turn.{turn_of, goes_on, run_by, run_from, run_of, Ran}
 use Rattle.schedule.specs.declared.Command.{Command}
 use Rattle.schedule.specs.declared.Command.TheVariants.{Insert, Delete, Find, Scan, Turns}
-use Rattle.schedule.specs.declared.OpeningReading.{OpeningReading}
-use Rattle.schedule.specs.declared.OpeningReading.TheVariants as opening
-use Rattle.schedule.specs.declared.CommandReading.{CommandReading}
-use Rattle.schedule.specs.declared.CommandReading.TheVariants as command
 use Rattle.tally.specs.Playing.{Evening, most_turns, counted, started_counts, begun, ran, play_by, play_of}
 use Rattle.tally.specs.Whole.{fresh_evening, going, play_from, begins, printed_by}
 
@@ -105,8 +102,8 @@ exact_going : (done b : ℕ) (s : List ℕ) (e : Evening) (capped summed : ℕ �
     → ((end : ℕ) (after : Evening) → AtMost (b + most_asked) after.turns → capped end after ≡ summed end after)
     → (r : CommandReading) → command_at s ≡ r → going counted done e r capped ≡ going ◌+◌ done e r summed
 unfolding going
-exact_going done b s e capped summed h room rest command.Faulty at = refl
-exact_going done b s e capped summed h room rest (command.Read c end) at =
+exact_going done b s e capped summed h room rest None at = refl
+exact_going done b s e capped summed h room rest (Some (c, end)) at =
     let few = proper_few c (command_stands s c end at).proper in
     rw (exact_one (suc done) b c e few h room, rest end (play_by ◌+◌ (suc done) c e).evening (played-at_most (suc done) b c e few h)) refl
 
@@ -129,7 +126,7 @@ unfolding printed_by begins fresh_evening
 exact s = by (opening_at s) refl
   where
     by : (r : OpeningReading) → opening_at s ≡ r → begins counted r s ≡ begins ◌+◌ r s
-    by opening.Faulty at = refl
-    by (opening.Read n m p end) at =
-        let few : length s ≤ most_bytes = (opening_opens s n m p end at).few in
-        exact_from (length s) 0 0 (drop end s) (fresh_evening n m p) (none_counted most_p) (omega (arith, few))
+    by None at = refl
+    by (Some (o, end)) at =
+        let few : length s ≤ most_bytes = (opening_opens s o.n o.m o.p end at).few in
+        exact_from (length s) 0 0 (drop end s) (fresh_evening o.n o.m o.p) (none_counted most_p) (omega (arith, few))

@@ -1,5 +1,5 @@
 -- What the program prints for a schedule: one definition, from the bytes that it reads to the bytes that it writes.
-use Rattle.std.specs.Prelude.{ℕ, zero, suc, ◌*◌, List, [], ◌++◌, eqb, length, drop, replicate, pos}
+use Rattle.std.specs.Prelude.{ℕ, zero, suc, ◌*◌, List, [], ◌++◌, eqb, length, drop, replicate, pos, Some, None}
 use Rattle.laws.specs.Choice.{pick}
 use Rattle.shapes.specs.Numbers.{most_n, most_m, most_p}
 use Rattle.shapes.specs.declared.Totals.{Totals}
@@ -7,11 +7,8 @@ use Rattle.tables.specs.Nodes.{node_width}
 use Rattle.tables.specs.Records.{record_width}
 use Rattle.tables.specs.World.{World, totals_of, idle, spot}
 use Rattle.tables.specs.Fresh.{fresh_of}
+use Rattle.schedule.specs.Answers.{OpeningReading, CommandReading}
 use Rattle.schedule.specs.Reading.{opening_at, command_at}
-use Rattle.schedule.specs.declared.OpeningReading.{OpeningReading}
-use Rattle.schedule.specs.declared.OpeningReading.TheVariants as opening
-use Rattle.schedule.specs.declared.CommandReading.{CommandReading}
-use Rattle.schedule.specs.declared.CommandReading.TheVariants as command
 use Rattle.lines.specs.Text.{text_of}
 use Rattle.lines.specs.declared.Line.{Line}
 use Rattle.lines.specs.declared.Line.TheVariants.{Quiet, Answered, Refused, End, Bad}
@@ -58,8 +55,8 @@ faulted number = text_of (Bad number) [] 0
 -- ---- the evening, by a way to add turns
 
 unfoldable pub going : (ℕ → ℕ → ℕ) → ℕ → Evening → CommandReading → (ℕ → Evening → List ℕ) → List ℕ
-going add done e (command.Read c end) rest = let d = play_by add (suc done) c e in spoken d ++ rest end d.evening
-going add done e command.Faulty rest = faulted (suc done)
+going add done e (Some (c, end)) rest = let d = play_by add (suc done) c e in spoken d ++ rest end d.evening
+going add done e None rest = faulted (suc done)
 
 -- so many commands are done; a command has bytes, so there are no more than k in k bytes
 unfoldable pub play_from : (ℕ → ℕ → ℕ) → ℕ → ℕ → List ℕ → Evening → List ℕ
@@ -69,8 +66,8 @@ play_from add (suc k) done s e =
     pick (eqb (length s) 0) (ended done e) more
 
 unfoldable pub begins : (ℕ → ℕ → ℕ) → OpeningReading → List ℕ → List ℕ
-begins add (opening.Read n m p end) s = play_from add (length s) 0 (drop end s) (fresh_evening n m p)
-begins add opening.Faulty s = faulted 0
+begins add (Some (o, end)) s = play_from add (length s) 0 (drop end s) (fresh_evening o.n o.m o.p)
+begins add None s = faulted 0
 
 unfoldable pub printed_by : (ℕ → ℕ → ℕ) → List ℕ → List ℕ
 printed_by add s = begins add (opening_at s) s

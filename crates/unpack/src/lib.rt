@@ -2,64 +2,50 @@
 #![tactic(auto)]
 
 ghost use Rattle.std.specs.Prelude.{◌≡◌};
-ghost use Rattle.groups.specs.Format.{bits, read_up_to, read_of, fault_of, read_signed_of};
+ghost use Rattle.groups.specs.Format.{bits, read_up_to, read_of, read_signed_of};
 
-use groups::{FOLLOWS, Fault, GROUP, MOST_GROUPS, Reading, SignedReading, signed};
+use groups::{FOLLOWS, Fault, GROUP, MOST_GROUPS, signed};
 
 // The largest number that can stand above a group within 32 bits.
 const MOST_ABOVE: u32 = 33_554_431;
 
-// The fault of a reading that has no number, to be handed on.
-fn fault_of(r: Reading) -> Fault
-    ensures { result ≡ fault_of r }
-{
-    match r {
-        Reading::Number(_, _) => Fault::CutShort,
-        Reading::Faulty(f) => f,
-    }
-}
-
 // The number at the front of the bytes, if it has no more groups than are left.
-fn read_groups(s: &[u8], left: usize) -> Reading
+#[tactic(auto, using(groups::specs::ByteByByte::reads), unfolding(groups::specs::Format::joined))]
+fn read_groups(s: &[u8], left: usize) -> Result<(u32, usize), Fault>
     ensures { result ≡ read_up_to bits left s.now }
 {
     if left == 0 {
-        return Reading::Faulty(Fault::TooLong);
+        return Err(Fault::TooLong);
     }
-    if s.len() == 0 {
-        return Reading::Faulty(Fault::CutShort);
-    }
-    let byte = s[0];
-    if byte < FOLLOWS {
-        return Reading::Number(byte as u32, 1);
-    }
-    let after = read_groups(&s[1..], left - 1);
-    let Reading::Number(above, taken) = after else {
-        return Reading::Faulty(fault_of(after));
+    let [byte, rest @ ..] = s else {
+        return Err(Fault::CutShort);
     };
+    if *byte < FOLLOWS {
+        return Ok((*byte as u32, 1));
+    }
+    let (above, taken) = read_groups(rest, left - 1)?;
     if above == 0 {
-        return Reading::Faulty(Fault::NotShortest);
+        return Err(Fault::NotShortest);
     }
     if MOST_ABOVE < above {
-        return Reading::Faulty(Fault::TooLarge);
+        return Err(Fault::TooLarge);
     }
-    Reading::Number((byte - FOLLOWS) as u32 + GROUP * above, taken + 1)
+    Ok(((*byte - FOLLOWS) as u32 + GROUP * above, taken + 1))
 }
 
-// The number at the front of the bytes.
-pub fn read(s: &[u8]) -> Reading
+// The number at the front of the bytes, and how many bytes it took.
+#[tactic(auto, unfolding(groups::specs::Format::reading, groups::specs::Format::most_groups))]
+pub fn read(s: &[u8]) -> Result<(u32, usize), Fault>
     ensures { result ≡ read_of s.now }
 {
     read_groups(s, MOST_GROUPS)
 }
 
-// The signed number at the front of the bytes.
-pub fn read_signed(s: &[u8]) -> SignedReading
+// The signed number at the front of the bytes, and how many bytes it took.
+#[tactic(auto, unfolding(groups::specs::Format::decoded))]
+pub fn read_signed(s: &[u8]) -> Result<(i32, usize), Fault>
     ensures { result ≡ read_signed_of s.now }
 {
-    let reading = read(s);
-    let Reading::Number(c, taken) = reading else {
-        return SignedReading::Faulty(fault_of(reading));
-    };
-    SignedReading::Number(signed(c), taken)
+    let (c, taken) = read(s)?;
+    Ok((signed(c), taken))
 }

@@ -1,1 +1,1 @@
-pub mod Behind
+pub mod Numbers

@@ -1,128 +1,77 @@
 // Writes a schedule: its opening, then one command after another, each behind the one before it.
 #![tactic(auto)]
 
-ghost use Rattle.std.specs.Prelude.{◌≡◌, true, [], ◌∷◌, ◌+◌, ◌≤◌, length};
+ghost use Rattle.std.specs.Prelude.{◌≡◌, true, ◌+◌, ◌≤◌, ◌<◌, ◌^◌, length, sum_by};
 ghost use Rattle.std.proofs.lemmas.List.Edits.{sets};
-ghost use Rattle.schedule.specs.Format.{spelled_all, numbers_of, accepted};
+ghost use Rattle.groups.specs.Format.{groups_of};
+ghost use Rattle.schedule.specs.Format.{spelled_all};
 ghost use Rattle.schedule.specs.Writing.{left, entered, write_opening, write_command};
-ghost use Rattle.writer.specs.Numerals.{listed};
 
 use fields::sizes_ok;
 use groups::code;
-use schedule::{Command, DELETE, FIND, INSERT, MOST_BYTES, Refusal, SCAN, TURNS, Writing};
+use schedule::{Command, DELETE, FIND, INSERT, MOST_BYTES, Refusal, SCAN, TURNS};
 
-// The numbers of an opening or a command; d counts where there are four.
-#[derive(Clone, Copy)]
-struct Numbers {
-    a: u32,
-    b: u32,
-    c: u32,
-    d: u32,
-    four: bool,
+// How many bytes the numbers of an opening or a command take.
+#[tactic(auto, using(crate::proofs::Numbers::lengths))]
+fn length_of(numbers: &[u32]) -> usize
+    requires { sum_by (λ n. length (groups_of n)) numbers.now < 2 ^ 64 }
+    ensures { result ≡ length (spelled_all numbers.now) }
+{
+    numbers.iter().map(|n| groups::length(*n)).sum()
 }
 
-fn three_numbers(a: u32, b: u32, c: u32) -> Numbers
-    ensures { listed result ≡ a ∷ b ∷ c ∷ [] }
+// Writes numbers where there is room for all of them, so that no answer of `write` is a refusal.
+#[tactic(auto, using(crate::proofs::Numbers::all_put))]
+fn put_numbers(numbers: &[u32], buffer: &mut [u8], at: usize)
+    requires { at + length (spelled_all numbers.now) ≤ length buffer.old }
+    ensures { buffer.new ≡ sets buffer.old at (spelled_all numbers.now) }
 {
-    Numbers {
-        a,
-        b,
-        c,
-        d: 0,
-        four: false,
+    let mut end = at;
+    for n in numbers {
+        end = pack::write(*n, buffer, end).unwrap();
     }
 }
 
-// How many bytes they take.
-fn length_of(x: Numbers) -> usize
-    ensures { result ≡ length (spelled_all (listed x)) }
+// Writes numbers at a place of the buffer, or refuses 8 and then 2 with the buffer as it was.
+#[tactic(auto, using(crate::proofs::Numbers::by_room))]
+fn enter(numbers: &[u32], buffer: &mut [u8], at: usize) -> Result<usize, Refusal>
+    requires { length numbers.now ≤ 4 }
+    ensures { left result buffer.new ≡ entered true (spelled_all numbers.now) buffer.old at }
 {
-    let three = groups::length(x.a) + (groups::length(x.b) + groups::length(x.c));
-    if x.four {
-        return three + groups::length(x.d);
-    }
-    three
-}
-
-// Writes them where there is room for all of them, so that no answer of `write` is a refusal.
-fn put_numbers(x: Numbers, buffer: &mut [u8], at: usize)
-    requires { at + length (spelled_all (listed x)) ≤ length buffer.old }
-    ensures { buffer.new ≡ sets buffer.old at (spelled_all (listed x)) }
-{
-    let b_at = at + groups::length(x.a);
-    let c_at = b_at + groups::length(x.b);
-    pack::write(x.a, buffer, at);
-    pack::write(x.b, buffer, b_at);
-    pack::write(x.c, buffer, c_at);
-    if x.four {
-        let d_at = c_at + groups::length(x.c);
-        pack::write(x.d, buffer, d_at);
-    }
-}
-
-// Writes them at a place of the buffer, or refuses 8 and then 2 with the buffer as it was.
-fn enter(x: Numbers, buffer: &mut [u8], at: usize) -> Writing
-    ensures { left result buffer.new ≡ entered true (spelled_all (listed x)) buffer.old at }
-{
-    let size = length_of(x);
+    let size = length_of(numbers);
     if MOST_BYTES - size < at {
-        return Writing::Refused(Refusal::File);
+        return Err(Refusal::File);
     }
     let end = at + size;
     if buffer.len() < end {
-        return Writing::Refused(Refusal::Size);
+        return Err(Refusal::Size);
     }
-    put_numbers(x, buffer, at);
-    Writing::End(end)
+    put_numbers(numbers, buffer, at);
+    Ok(end)
 }
 
-// Writes N, M, P.
-pub fn write_opening(n: u32, m: u32, p: u32, buffer: &mut [u8], at: usize) -> Writing
+// Writes N, M, P, and says where they end.
+#[tactic(auto, using(crate::proofs::Numbers::by_sizes))]
+pub fn write_opening(n: u32, m: u32, p: u32, buffer: &mut [u8], at: usize) -> Result<usize, Refusal>
     ensures { left result buffer.new ≡ write_opening n m p buffer.old at }
 {
     if !sizes_ok(n, m, p) {
-        return Writing::Refused(Refusal::File);
+        return Err(Refusal::File);
     }
-    enter(three_numbers(n, m, p), buffer, at)
+    enter(&[n, m, p], buffer, at)
 }
 
-// n turns are at least 1.
-fn accepted(command: Command) -> bool
-    ensures { result ≡ accepted command }
-{
-    match command {
-        Command::Insert(_, _) => true,
-        Command::Delete(_, _) => true,
-        Command::Find(_, _) => true,
-        Command::Scan(_, _, _) => true,
-        Command::Turns(_, n) => 0 < n,
-    }
-}
-
-fn numbers_of(command: Command) -> Numbers
-    ensures { listed result ≡ numbers_of command }
-{
-    match command {
-        Command::Insert(worker, key) => three_numbers(INSERT, worker, code(key)),
-        Command::Delete(worker, key) => three_numbers(DELETE, worker, code(key)),
-        Command::Find(worker, key) => three_numbers(FIND, worker, code(key)),
-        Command::Scan(worker, a, b) => Numbers {
-            a: SCAN,
-            b: worker,
-            c: code(a),
-            d: code(b),
-            four: true,
-        },
-        Command::Turns(worker, n) => three_numbers(TURNS, worker, n),
-    }
-}
-
-// Writes a command.
-pub fn write_command(command: Command, buffer: &mut [u8], at: usize) -> Writing
+// Writes a command, and says where it ends; n turns are at least 1.
+#[tactic(auto, using(crate::proofs::Numbers::by_kind))]
+pub fn write_command(command: Command, buffer: &mut [u8], at: usize) -> Result<usize, Refusal>
     ensures { left result buffer.new ≡ write_command command buffer.old at }
 {
-    if !accepted(command) {
-        return Writing::Refused(Refusal::File);
+    match command {
+        Command::Insert(worker, key) => enter(&[INSERT, worker, code(key)], buffer, at),
+        Command::Delete(worker, key) => enter(&[DELETE, worker, code(key)], buffer, at),
+        Command::Find(worker, key) => enter(&[FIND, worker, code(key)], buffer, at),
+        Command::Scan(worker, a, b) => enter(&[SCAN, worker, code(a), code(b)], buffer, at),
+        Command::Turns(_, 0) => Err(Refusal::File),
+        Command::Turns(worker, n) => enter(&[TURNS, worker, n], buffer, at),
     }
-    enter(numbers_of(command), buffer, at)
 }

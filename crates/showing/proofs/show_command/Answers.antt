@@ -6,4 +6,4 @@ use Rattle.showing.proofs.show_command.Goals as goal
 
 pub returns : goal.returns
 returns g c =
-    rw c.say_played.ensures (part-within c.args.commands.now c.args.at _ (command_stands _ _ _ (sym c.in-Read.ensures)).there c.requires)
+    rw c.say_played.ensures (part-within c.args.commands.now c.args.at _ (command_stands _ _ _ (sym c.in-Some.ensures)).there c.requires)

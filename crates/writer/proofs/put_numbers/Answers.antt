@@ -1,21 +1,13 @@
--- `writer::put_numbers` meets its contract: each number stands behind the one before it (`Run`), and there is room for all.
-use mathlib.Core.Path.{refl, ap}
-use Prim.Native.Nat.{◌+◌}
-use native.Mathlib.Omega.{arith}
-use Rattle.writer.proofs.Behind.{listed-four, listed-three, three-within, done, then, run_leaves}
+-- `writer::put_numbers` meets its contract: there is room for each number, and what is left behind it does the rest.
+use Rattle.std.proofs.Common.{◌∙◌, arith}
+use Rattle.writer.proofs.Numbers.{is_written, rest_put, rest_room}
 use Rattle.writer.proofs.put_numbers.Goals as goal
 
-pub overflow_add-b_at : goal.overflow_add-b_at
-overflow_add-b_at c = omega (arith, c.length.ensures, three-within c.args.x, c.requires)
+pub unwrap-end-requires : goal.unwrap-end-requires
+unwrap-end-requires c = is_written c.args.numbers.now c.loop-n.buffer _ _ _ _ c.write.ensures (omega arith) c.loop-n.invariant.1
 
-pub overflow_add-c_at : goal.overflow_add-c_at
-overflow_add-c_at c = omega (arith, c.length.ensures, c.length-2.ensures, three-within c.args.x, c.requires)
-
-pub overflow_add-d_at : goal.overflow_add-d_at
-overflow_add-d_at c = omega (arith, c.length.ensures, c.length-2.ensures, c.length-then-x.ensures, three-within c.args.x, c.requires)
-
-pub returns-then-x : goal.returns-then-x
-returns-then-x c = rw (listed-four c.args.x c.if-x.true) (run_leaves _ _ _ _ (then c.write.ensures (ap (λ k. c.args.at + k) c.length.ensures) (then c.write-2.ensures (ap (λ k. c.args.at + c.length.result + k) c.length-2.ensures) (then c.write-3.ensures (ap (λ k. c.args.at + c.length.result + c.length-2.result + k) c.length-then-x.ensures) (then c.write-then-x.ensures refl done)))) (rw (listed-four c.args.x c.if-x.true) at c.requires))
-
-pub returns-else-x : goal.returns-else-x
-returns-else-x c = rw (listed-three c.args.x c.if-x.false) (run_leaves _ _ _ _ (then c.write.ensures (ap (λ k. c.args.at + k) c.length.ensures) (then c.write-2.ensures (ap (λ k. c.args.at + c.length.result + k) c.length-2.ensures) (then c.write-3.ensures refl done))) (rw (listed-three c.args.x c.if-x.false) at c.requires))
+pub loop-n-preserved : goal.loop-n-preserved
+loop-n-preserved c = (
+  rest_put c.args.numbers.now c.loop-n.buffer _ _ _ _ c.write.ensures (omega arith) c.loop-n.invariant.1 _ c.unwrap-end.ensures ∙ c.loop-n.invariant.0,
+  rest_room c.args.numbers.now c.loop-n.buffer _ _ _ _ c.write.ensures (omega arith) c.loop-n.invariant.1 _ c.unwrap-end.ensures,
+)
