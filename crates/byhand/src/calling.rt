@@ -5,8 +5,7 @@ use crate::telling::{
     say, say_counts, say_keys, say_list, say_number, say_outcome, say_refusal, say_same, say_totals,
 };
 use crate::workers::of_board;
-use lister::Listing;
-use shapes::{Board, Phase, Reply, Run};
+use shapes::{Board, Phase, Refusal, Reply, Run};
 use tables::MOST_WORKERS;
 
 // What a call comes to is printed, and its board handed on.
@@ -44,13 +43,13 @@ fn start(
     }
 }
 
-fn say_version(rt: &impl Print, listing: Listing, keys: &[i32]) {
+fn say_version(rt: &impl Print, listing: Result<usize, Refusal>, keys: &[i32]) {
     match listing {
-        Listing::Keys(n) => {
+        Ok(n) => {
             say_keys(rt, n);
             say_list(rt, keys, n);
         }
-        Listing::Refused(why) => say_refusal(rt, why),
+        Err(why) => say_refusal(rt, why),
     }
 }
 
