@@ -1,5 +1,5 @@
 -- How long a line can be: it fits its page.
-use Rattle.std.specs.Prelude.{◌≡◌, refl, List, [], ◌∷◌, ◌++◌, ℕ, suc, ◌+◌, ◌*◌, ◌-◌, ◌≤◌, ◌<◌, ℤ, pos, negsuc, length, get_or}
+use Rattle.std.specs.Prelude.{◌≡◌, refl, List, [], ◌∷◌, ◌++◌, ℕ, suc, ◌+◌, ◌*◌, ◌≤◌, ◌<◌, ℤ, pos, negsuc, length, get_or}
 use Rattle.std.proofs.Common.{arith, add-one, length-append, SFits}
 use Rattle.std.specs.Int.{w32}
 use Rattle.shapes.specs.Numbers.{refusal_number}

@@ -1,5 +1,5 @@
 -- The bytes before the one reached have been put, and give what they give from the start.
-use Rattle.std.proofs.Common.{◌≡◌, length, take}
+use Rattle.std.proofs.Common.{◌≡◌, take}
 use Rattle.lines.specs.Page.{page, fill}
 use Rattle.lines.proofs.page.put_text.Given as goal
 
