@@ -1,5 +1,4 @@
 // What is printed.
-use lister::Listing;
 use shapes::{Answer, Outcome, Refusal, Totals, Worker};
 use std::fmt;
 
@@ -21,7 +20,7 @@ struct Refused(Refusal);
 // A listing, with the list that its keys stand in.
 #[derive(Drop)]
 pub struct Listed<'a> {
-    pub listing: Listing,
+    pub listing: Result<usize, Refusal>,
     pub keys: &'a [i32],
 }
 
@@ -73,14 +72,14 @@ impl fmt::Display for Told {
 impl fmt::Display for Listed<'_> {
     fn fmt<W: fmt::Write>(&self, f: &mut fmt::Formatter<W>) -> fmt::Result {
         match self.listing {
-            Listing::Keys(n) => {
+            Ok(n) => {
                 write!(f, "keys {n}")?;
                 for key in self.keys.iter().take(n) {
                     write!(f, " {key}")?;
                 }
                 Ok(())
             }
-            Listing::Refused(why) => Refused(why).fmt(f),
+            Err(why) => Refused(why).fmt(f),
         }
     }
 }

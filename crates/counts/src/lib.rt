@@ -6,9 +6,6 @@ ghost use Rattle.tally.specs.Playing.{counted, started_counts};
 
 use shapes::Outcome;
 
-// The greatest count that is kept: no schedule comes to it (tally:Exact).
-const MOST_TURNS: u64 = 18_446_744_073_709_551_615;
-
 pub fn count_of(counts: [u64; 8], w: u32) -> u64
     ensures { result ≡ get_or counts w 0 }
 {
@@ -25,23 +22,20 @@ pub fn with_count(counts: [u64; 8], w: u32, count: u64) -> [u64; 8]
     all
 }
 
+// No schedule comes to the greatest count, which is kept (tally:Exact).
+#[tactic(auto, unfolding(tally::specs::Playing::counted, laws::specs::Choice::pick))]
 pub fn counted(before: u64, more: u32) -> u64
     ensures { result ≡ counted before more }
 {
-    let room = MOST_TURNS - before;
-    if more as u64 <= room {
-        before + more as u64
-    } else {
-        MOST_TURNS
-    }
+    before.saturating_add(more as u64)
 }
 
+#[tactic(auto, unfolding(tally::specs::Playing::started_counts))]
 pub fn started_counts(outcome: Outcome, w: u32, counts: [u64; 8]) -> [u64; 8]
     ensures { result ≡ started_counts outcome w counts }
 {
     match outcome {
         Ok(None) => with_count(counts, w, 0),
-        Ok(Some(_)) => counts,
-        Err(_) => counts,
+        Ok(Some(_)) | Err(_) => counts,
     }
 }

@@ -1,17 +1,10 @@
 // What is read: a file to its end, or as much as shows that it is too long.
 #![tactic(auto)]
 
-ghost use Rattle.std.specs.Prelude.{◌≡◌, length};
-ghost use Rattle.input.specs.Input.{Within};
+ghost use Rattle.std.specs.Prelude.{◌≡◌, ◌≤◌, length, IfOk};
 
+use std::io;
 use std::io::Read;
-
-// How a reading ended: with so many bytes, or not at all.
-#[derive(Clone, Copy)]
-pub enum Input {
-    Came(usize),
-    Unreadable,
-}
 
 // One byte more than the longest schedule, so that a longer one shows.
 const ROOM: usize = 65_537;
@@ -23,16 +16,15 @@ pub fn room() -> [u8; ROOM]
 }
 
 // Reads to the end, or until the buffer is full. A read that fails is no end.
-pub fn read_all<R: Read>(from: &mut R, buffer: &mut [u8]) -> Input
-    ensures { Within result (length buffer.new) }
+pub fn read_all<R: Read>(from: &mut R, buffer: &mut [u8]) -> io::Result<usize>
+    ensures { IfOk result (λ size. size ≤ length buffer.new) }
 {
     let mut done = 0;
     while done < buffer.len() {
-        match from.read(&mut buffer[done..]) {
-            Ok(0) => return Input::Came(done),
-            Ok(came) => done += came,
-            Err(_) => return Input::Unreadable,
+        match from.read(&mut buffer[done..])? {
+            0 => break,
+            came => done += came,
         }
     }
-    Input::Came(done)
+    Ok(done)
 }

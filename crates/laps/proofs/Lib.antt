@@ -1,4 +1,3 @@
 pub mod Floor
 pub mod Inverse
-pub mod Quotients
 pub mod Keys

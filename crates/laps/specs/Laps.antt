@@ -1,14 +1,9 @@
 -- Laps, their keys and pads: 01, 'Laps', sentence by sentence. All that the contracts cite stands here.
-use Rattle.std.specs.Prelude.{Bool, ◌&&◌, ℕ, suc, ◌-◌, ◌/◌, ◌%◌, ℤ, pos, negsuc, neg_ℤ, ◌+ℤ◌, ◌*ℤ◌, leb}
+use Rattle.std.specs.Prelude.{Result, Ok, Err, Bool, ◌&&◌, ℕ, suc, ◌-◌, ◌/◌, ◌%◌, ℤ, pos, negsuc, neg_ℤ, ◌+ℤ◌, ◌*ℤ◌, leb}
 use Rattle.std.specs.Int.Signed.{le_z, quot_z}
 use Rattle.laws.specs.Choice.{pick}
 use Rattle.laps.specs.declared.Lap.{Lap}
-use Rattle.laps.specs.declared.KeyAnswer.{KeyAnswer}
-use Rattle.laps.specs.declared.KeyAnswer.TheVariants as key-answer
-use Rattle.laps.specs.declared.LapAnswer.{LapAnswer}
-use Rattle.laps.specs.declared.LapAnswer.TheVariants as lap-answer
-use Rattle.laps.specs.declared.PadAnswer.{PadAnswer}
-use Rattle.laps.specs.declared.PadAnswer.TheVariants as pad-answer
+use Rattle.laps.specs.declared.OutOfRange.{OutOfRange}
 
 -- ---- 01's numbers
 
@@ -90,17 +85,9 @@ pub data Told (A : Type 0) : Type 0 where
   refused : ℕ → Told A
   gives : A → Told A
 
-unfoldable pub told_key : KeyAnswer → Told ℤ
-told_key (key-answer.Key k) = gives k
-told_key key-answer.Refused = refused key_refusal
-
-unfoldable pub told_lap : LapAnswer → Told Lap
-told_lap (lap-answer.Lap l) = gives l
-told_lap lap-answer.Refused = refused key_refusal
-
-unfoldable pub told_pad : PadAnswer → Told ℤ
-told_pad (pad-answer.Difference d) = gives d
-told_pad pad-answer.Refused = refused key_refusal
+unfoldable pub told : {A : Type 0} → Result A OutOfRange → Told A
+told (Ok x) = gives x
+told (Err e) = refused key_refusal
 
 -- the key of a lap: "a lap outside its ranges" is refused 6
 unfoldable pub key_of_lap : ℤ → ℕ → Told ℤ

@@ -29,7 +29,7 @@ use crate::rows::{
     show_unknown, show_writing,
 };
 use crate::telling::{say, say_count};
-use input::{Input, read_all, room};
+use input::{read_all, room};
 
 const ROW: usize = 10;
 
@@ -106,7 +106,7 @@ fn show_input(rt: &impl Print, input: &[u8]) {
 fn main(rt: HostRuntime) {
     let mut table = room();
     match read_all(&mut rt.stdin(), &mut table) {
-        Input::Came(size) => show_input(&rt, &table[..size]),
-        Input::Unreadable => say(&rt, b"bad input: cannot be read\n"),
+        Ok(size) => show_input(&rt, &table[..size]),
+        Err(_) => say(&rt, b"bad input: cannot be read\n"),
     }
 }

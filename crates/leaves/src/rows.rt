@@ -6,7 +6,6 @@ use crate::telling::{
     say, say_bytes, say_count, say_fault, say_key_refusal, say_number, say_signed, say_size_refusal,
 };
 use groups::TooShort;
-use laps::{KeyAnswer, LapAnswer, PadAnswer};
 
 pub fn show_number(rt: &impl Print, n: u32) {
     say(rt, b"number ");
@@ -81,8 +80,8 @@ pub fn show_lap(rt: &impl Print, difference: i32, entry: u32) {
     say_number(rt, entry);
     say(rt, b" = ");
     match laps::key_of_lap(difference, entry) {
-        KeyAnswer::Key(key) => say_signed(rt, key),
-        KeyAnswer::Refused => say_key_refusal(rt),
+        Ok(key) => say_signed(rt, key),
+        Err(_) => say_key_refusal(rt),
     }
 }
 
@@ -91,12 +90,12 @@ pub fn show_key(rt: &impl Print, key: i32) {
     say_signed(rt, key);
     say(rt, b" = ");
     match laps::lap_of_key(key) {
-        LapAnswer::Lap(lap) => {
+        Ok(lap) => {
             say_signed(rt, lap.difference);
             say(rt, b" ");
             say_number(rt, lap.entry);
         }
-        LapAnswer::Refused => say_key_refusal(rt),
+        Err(_) => say_key_refusal(rt),
     }
 }
 
@@ -105,8 +104,8 @@ pub fn show_pad(rt: &impl Print, thousandths: i32) {
     say_signed(rt, thousandths);
     say(rt, b" = ");
     match laps::difference_of_pad(thousandths) {
-        PadAnswer::Difference(difference) => say_signed(rt, difference),
-        PadAnswer::Refused => say_key_refusal(rt),
+        Ok(difference) => say_signed(rt, difference),
+        Err(_) => say_key_refusal(rt),
     }
 }
 

@@ -1,15 +1,15 @@
 -- How long a line can be: it fits its page.
-use Rattle.std.specs.Prelude.{◌≡◌, refl, List, [], ◌∷◌, ◌++◌, ℕ, suc, ◌+◌, ◌*◌, ◌-◌, ◌≤◌, ◌<◌, ℤ, pos, negsuc, length, get_or}
-use Rattle.std.proofs.Common.{arith, length-append, SFits}
+use Rattle.std.specs.Prelude.{◌≡◌, refl, List, [], ◌∷◌, ◌++◌, ℕ, suc, ◌+◌, ◌*◌, ◌≤◌, ◌<◌, ℤ, pos, negsuc, length, get_or}
+use Rattle.std.proofs.Common.{arith, add-one, length-append, SFits}
 use Rattle.std.specs.Int.{w32}
 use Rattle.shapes.specs.Numbers.{refusal_number}
 use Rattle.shapes.specs.declared.Answer.{Answer}
 use Rattle.shapes.specs.declared.Answer.TheVariants.{Yes, No, Keys, NoRoom, NoPhase}
 use Rattle.shapes.specs.declared.Refusal.{Refusal}
 use Rattle.shapes.specs.declared.Refusal.TheVariants as refusal
-use Rattle.lines.specs.Text.{line_feed, decimal, signed, answer_word, spaced, line_of, answered_text, refused_text, end_text, bad_text, most_keys, keys_at, keys_text, listed_of}
+use Rattle.lines.specs.Text.{line_feed, blank, decimal, signed, answer_word, spaced, line_of, answered_text, refused_text, end_text, bad_text, most_keys, keys_at, keys_text, listed_of}
 use Rattle.lines.specs.Digits.{short}
-use Rattle.lines.specs.Keys.{keys_next, answered_line}
+use Rattle.lines.specs.Keys.{one_more_key, answered_line}
 
 -- how many bytes a page has
 abbrev pub size : ℕ
@@ -51,16 +51,15 @@ unfolding signed
 key-short (pos n) f = omega (arith, ten_digits n (omega (arith, f.sfits)))
 key-short (negsuc m) f = omega (arith, ten_digits (suc m) (omega (arith, f.sfits)))
 
--- the next key's share, where i of n have been put
-pub keys_length : (found : List ℤ) (from n i : ℕ) → i < n → SFits w32 (get_or found (from + i) (pos 0)) → length (keys_text found (from + i) (n - i)) ≤ key_room + length (keys_text found (from + (i + 1)) (n - (i + 1)))
-unfolding spaced
-keys_length found from n i h f =
+-- the last key's share
+pub one_more_length : (found : List ℤ) (from i : ℕ) → SFits w32 (get_or found (from + i) (pos 0)) → length (keys_text found from (i + 1)) ≤ length (keys_text found from i) + key_room
+one_more_length found from i f =
     let key = get_or found (from + i) (pos 0) in
-    rw (keys_next found from n i h, length-append (signed key) (keys_text found (from + (i + 1)) (n - (i + 1)))) (omega (arith, key-short key f))
+    rw (add-one, one_more_key found from i, length-append (keys_text found from i) (blank ∷ signed key)) (omega (arith, key-short key f))
 
-pub no_keys_length : (found : List ℤ) (from n i : ℕ) → n ≤ i → length (keys_text found (from + i) (n - i)) ≡ 0
+pub no_keys_length : (found : List ℤ) (from : ℕ) → length (keys_text found from 0) ≡ 0
 unfolding keys_at spaced
-no_keys_length found from n i h = let none : n - i ≡ 0 = omega arith in rw none
+no_keys_length found from = refl
 
 few_listed : (answer : Answer) → listed_of answer ≤ most_keys
 unfolding listed_of

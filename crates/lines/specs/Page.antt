@@ -1,8 +1,8 @@
 -- A page that is written from its start.
 use Rattle.std.specs.Prelude.{◌≡◌, refl, List, [], ◌∷◌, ◌++◌, ℕ, suc, ◌+◌, ◌≤◌, ◌<◌, ltb, length, get_or, set, take, drop}
-use Rattle.std.proofs.Common.{sym, ap, ◌∙◌, add-one, zero-add, arith, length-set, length-append, drop_of_length-le, drop-cons, lt-ltb, le-ltb}
+use Rattle.std.proofs.Common.{sym, ap, ◌∙◌, add-one, zero-add, arith, length-set, length-append, lt-ltb, le-ltb}
 use Rattle.std.proofs.lemmas.List.Edits.{sets, sets-eq}
-use Rattle.std.proofs.Math.Seq.{take-append_seam}
+use Rattle.std.proofs.Math.Seq.{take-append_seam, take-suc}
 use Rattle.laws.specs.Choice.{pick, pick_true, pick_false}
 use Rattle.lines.specs.Text.{blank, line_feed, spaced, line_of}
 
@@ -42,14 +42,13 @@ pub fill_full : (b at : ℕ) (bytes : List ℕ) → length bytes ≤ at → page
 unfolding fill one
 fill_full b at bytes h = sym (pick_false _ _ _ (le-ltb at (length bytes) h))
 
--- the next byte of a text, in a loop that has put i of them
-pub fill-drop : (text : List ℕ) (i : ℕ) (p : Page) → i < length text → fill (drop i text) p ≡ fill (drop (i + 1) text) (fill (get_or text i 0 ∷ []) p)
+-- a text's first bytes: none of them, and one more
+pub fill_none : (p : Page) → fill [] p ≡ p
 unfolding fill
-fill-drop text i p h = rw (add-one, drop-cons text i 0 h)
+fill_none p = refl
 
-pub fill_dropped : (text : List ℕ) (i : ℕ) (p : Page) → length text ≤ i → fill (drop i text) p ≡ p
-unfolding fill
-fill_dropped text i p h = rw (drop_of_length-le text h)
+pub fill_next : (text : List ℕ) (i : ℕ) (p : Page) → i < length text → fill (take (i + 1) text) p ≡ fill (get_or text i 0 ∷ []) (fill (take i text) p)
+fill_next text i p h = rw (add-one, take-suc text i 0 h) (fill-append (take i text) (get_or text i 0 ∷ []) p)
 
 -- where there is room, the bytes are stored one after the other
 pub fill-sets : (text bytes : List ℕ) (at : ℕ) → at + length text ≤ length bytes → fill text (page at bytes) ≡ page (at + length text) (sets bytes at text)

@@ -10,6 +10,7 @@ const ZERO: u8 = b'0';
 
 const BLANK: u8 = b' ';
 
+#[tactic(auto, using(crate::specs::Page::fill_one, crate::specs::Page::fill_full))]
 pub fn put_byte(b: u8, out: &mut [u8], at: usize) -> usize
     ensures { page result out.new ≡ fill (b ∷ []) (page at out.old) }
 {
@@ -20,18 +21,18 @@ pub fn put_byte(b: u8, out: &mut [u8], at: usize) -> usize
     at
 }
 
+#[tactic(auto, using(crate::specs::Page::fill_none, crate::specs::Page::fill_next))]
 pub fn put_text(text: &[u8], out: &mut [u8], at: usize) -> usize
     ensures { page result out.new ≡ fill text.now (page at out.old) }
 {
-    let mut i = 0;
     let mut place = at;
-    while i < text.len() {
-        place = put_byte(text[i], out, place);
-        i += 1;
+    for byte in text {
+        place = put_byte(*byte, out, place);
     }
     place
 }
 
+#[tactic(auto, using(crate::proofs::Steps::digits))]
 pub fn put_number(n: u64, out: &mut [u8], at: usize) -> usize
     ensures { page result out.new ≡ fill (decimal n) (page at out.old) }
 {
@@ -43,6 +44,7 @@ pub fn put_number(n: u64, out: &mut [u8], at: usize) -> usize
 }
 
 // A blank and a number.
+#[tactic(auto, unfolding(crate::specs::Page::fill))]
 pub fn put_next(n: u64, out: &mut [u8], at: usize) -> usize
     ensures { page result out.new ≡ fill (blank ∷ decimal n) (page at out.old) }
 {
@@ -52,6 +54,7 @@ pub fn put_next(n: u64, out: &mut [u8], at: usize) -> usize
 
 // A blank and a signed number. Its code, as a schedule sends it, is even from 0 on and then twice the number; odd below 0,
 // and then one less than twice the distance from 0.
+#[tactic(auto, using(crate::specs::Digits::signed_natural, crate::specs::Digits::signed_negative), unfolding(crate::specs::Page::fill))]
 pub fn put_next_signed(n: i32, out: &mut [u8], at: usize) -> usize
     ensures { page result out.new ≡ fill (blank ∷ signed n) (page at out.old) }
 {

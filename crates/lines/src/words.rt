@@ -1,7 +1,7 @@
 // The words of an answer, a refusal's number, and how many keys are listed.
-ghost use Rattle.std.specs.Prelude.{◌≡◌, ◌∷◌, min};
+ghost use Rattle.std.specs.Prelude.{◌≡◌, ◌∷◌};
 ghost use Rattle.shapes.specs.Numbers.{refusal_number};
-ghost use Rattle.lines.specs.Text.{blank, answer_word, most_keys, listed_of};
+ghost use Rattle.lines.specs.Text.{blank, answer_word, listed_of};
 ghost use Rattle.lines.specs.Page.{page, fill};
 
 use crate::page::put_text;
@@ -11,6 +11,7 @@ use shapes::{Answer, Refusal};
 const MOST_KEYS: u32 = 1024;
 
 // A blank and the word.
+#[tactic(auto, unfolding(crate::specs::Text::answer_word))]
 pub fn put_answer(answer: Answer, out: &mut [u8], at: usize) -> usize
     ensures { page result out.new ≡ fill (blank ∷ answer_word answer) (page at out.old) }
 {
@@ -23,37 +24,20 @@ pub fn put_answer(answer: Answer, out: &mut [u8], at: usize) -> usize
     }
 }
 
+#[tactic(auto, unfolding(shapes::specs::Numbers::refusal_number))]
 pub fn refusal_number(refusal: Refusal) -> u64
     ensures { result ≡ refusal_number refusal }
 {
-    match refusal {
-        Refusal::Table => 1,
-        Refusal::Size => 2,
-        Refusal::Worker => 3,
-        Refusal::Busy => 4,
-        Refusal::Idle => 5,
-        Refusal::Crooked => 7,
-    }
-}
-
-fn capped(n: u32) -> usize
-    ensures { result ≡ min n most_keys }
-{
-    if MOST_KEYS < n {
-        return MOST_KEYS as usize;
-    }
-    n as usize
+    refusal as u64
 }
 
 // How many keys an answer lists.
+#[tactic(auto, unfolding(crate::specs::Text::listed_of))]
 pub fn listed(answer: Answer) -> usize
     ensures { result ≡ listed_of answer }
 {
     match answer {
-        Answer::Yes => 0,
-        Answer::No => 0,
-        Answer::Keys(n) => capped(n),
-        Answer::NoRoom => 0,
-        Answer::NoPhase => 0,
+        Answer::Keys(n) => n.min(MOST_KEYS) as usize,
+        Answer::Yes | Answer::No | Answer::NoRoom | Answer::NoPhase => 0,
     }
 }

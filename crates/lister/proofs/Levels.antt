@@ -70,13 +70,28 @@ into_then l at crooked next = refl
 into_then l at (walked leaves ks) next = into-behind l at ks (next leaves)
 
 -- with both children found, the left one's part and then the right one's, a level lower
-pub both_parts : (used : ℕ) (ns : List ℕ) (i : Phase) (x : NodeNo) (leaves levels : ℕ) {a b : NodeNo} → is_internal ns x ≡ true → (levels ≡ 0 → ⊥) → read_child used ns x true i ≡ Some a → read_child used ns x false i ≡ Some b → (l : List ℤ) (at : ℕ) → into l at (walk levels used ns i x leaves) ≡ onward (into l at (walk (levels - 1) used ns i a leaves)) (walk (levels - 1) used ns i b)
-unfolding to_child
-both_parts used ns i x leaves levels h k e f l at = rw (goes_down used ns i x leaves levels h k, e, f) (into_then l at _ _)
+module _ (used : ℕ) (ns : List ℕ) (i : Phase) (x : NodeNo) (leaves levels below : ℕ) {a b : NodeNo} (h : is_internal ns x ≡ true) (k : levels ≡ suc below) (e : read_child used ns x true i ≡ Some a) (f : read_child used ns x false i ≡ Some b) (l : List ℤ) (at : ℕ) where
+  both_parts : into l at (walk levels used ns i x leaves) ≡ onward (into l at (walk below used ns i a leaves)) (walk below used ns i b)
+  unfolding to_child
+  both_parts =
+      let d : levels - 1 ≡ below = omega arith in
+      rw (goes_down used ns i x leaves levels h (λ z. omega arith), e, f, d) (into_then l at _ _)
+
+  pub first_lost : lost ≡ into l at (walk below used ns i a leaves) → lost ≡ into l at (walk levels used ns i x leaves)
+  unfolding onward
+  first_lost g = rw (both_parts, ← g) refl
+
+  pub second_behind : {more next : ℕ} {out : List ℤ} → stands more next out ≡ into l at (walk below used ns i a leaves) → into out next (walk below used ns i b more) ≡ into l at (walk levels used ns i x leaves)
+  unfolding onward
+  second_behind g = rw (both_parts, ← g) refl
 
 -- ---- a leaf that may still be met
 
 module _ (ns : List ℕ) (x : NodeNo) (l : List ℤ) (at : ℕ) where
+  pub no_leaf : (leaves : ℕ) → leaves ≡ 0 → into l at (at_leaf ns x leaves) ≡ lost
+  unfolding into at_leaf
+  no_leaf leaves h = rw h refl
+
   pub leaf_finite : (leaves : ℕ) → (leaves ≡ 0 → ⊥) → (rank_at ns x).class ≡ 0 → into l at (at_leaf ns x leaves) ≡ stands (leaves - 1) (at + 1) (set l at (number_of (record { 0 = (rank_at ns x).word })))
   unfolding into at_leaf leaf_keys pick
   leaf_finite zero h k = absurd (h refl)

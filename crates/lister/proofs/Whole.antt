@@ -1,8 +1,9 @@
 -- A whole listing: refused 1 by its tests, else made of two walks, one tried on no places and one into the list.
 use Prim.Native.Nat.{ℕ, ◌+◌, ◌<◌, ◌≤◌}
 use native.Mathlib.Omega.{arith}
+use Rattle.std.specs.Prelude.{Option, None, Some}
 use mathlib.Core.Path.{◌≡◌, refl, ◌∙◌}
-use mathlib.Core.List.{List, [], ◌∷◌, ◌++◌}
+use mathlib.Core.List.{List, []}
 use mathlib.Core.Bool.{true, false}
 use lib.ListN.{length}
 use lib.Seq.{sets, sets-eq}
@@ -21,8 +22,7 @@ use Rattle.listing.specs.Listing.{Walked, crooked, walked, walk, listed, refused
 use Rattle.listing.specs.Leaves.{Within}
 use Rattle.listing.proofs.Leaves.{walk-within}
 use Rattle.lister.specs.Lists.{lost, stands, standing, into}
-use Rattle.lister.specs.declared.walk.Walking.{Walking}
-use Rattle.lister.specs.declared.walk.Walking.TheVariants as walking
+use Rattle.lister.specs.declared.walk.Reached.{Reached}
 
 abbrev pub whole : World → Phase → Walked
 whole s i = walk (totals_of s).nodes (totals_of s).nodes s.nodes i root (totals_of s).nodes
@@ -44,11 +44,11 @@ lost_crooked t l crooked e = refl
 lost_crooked t l (walked left ks) e = absurd (let z : ◌≡◌ {A = ℕ} 0 1 = cc in omega arith)
 
 -- the walk tried found so many keys; the walk made wrote them, and what the list had behind them stays
-keys_written : (l t tried out : List ℤ) (more n used : ℕ) (r : Walking) (w : Walked) → stands more n tried ≡ into t 0 w → standing r out ≡ into l 0 w → Within used w → used ≤ length l → listed n out ≡ into_list l w
+keys_written : (l t tried out : List ℤ) (more n used : ℕ) (r : Option Reached) (w : Walked) → stands more n tried ≡ into t 0 w → standing r out ≡ into l 0 w → Within used w → used ≤ length l → listed n out ≡ into_list l w
 unfolding into standing Within into_list
 keys_written l t tried out more n used r crooked e f h k = absurd (let z : ◌≡◌ {A = ℕ} 0 1 = cc in omega arith)
-keys_written l t tried out more n used walking.Crooked (walked left ks) e f h k = absurd (let z : ◌≡◌ {A = ℕ} 0 1 = cc in omega arith)
-keys_written l t tried out more n used (walking.On m at) (walked left ks) e f h k =
+keys_written l t tried out more n used None (walked left ks) e f h k = absurd (let z : ◌≡◌ {A = ℕ} 0 1 = cc in omega arith)
+keys_written l t tried out more n used (Some r) (walked left ks) e f h k =
     let g : 0 + length ks ≡ length ks = omega arith in
     let a : n ≡ 0 + length ks = cc in
     let b : out ≡ sets l 0 ks = cc in
@@ -69,13 +69,10 @@ module _ (s : World) (i : Phase) (l : List ℤ) where
   unfolding list_of pick
   by_walk h k = rw (h, le-leb _ _ k) refl
 
-  -- e is what the walk tried left of no places
-  pub refused_crooked : (t e : List ℤ) → length e ≡ 0 → sound_of s ≡ true → (totals_of s).n ≤ length l → lost ≡ into t 0 (whole s i) → refused refusal.Crooked (e ++ l) ≡ list_of s i l
-  refused_crooked t [] z h k f = lost_crooked t l (whole s i) f ∙ by_walk h k
-  refused_crooked t (x ∷ e) z h k f = absurd (omega arith)
+  pub refused_crooked : sound_of s ≡ true → (totals_of s).n ≤ length l → lost ≡ into [] 0 (whole s i) → refused refusal.Crooked l ≡ list_of s i l
+  refused_crooked h k f = lost_crooked [] l (whole s i) f ∙ by_walk h k
 
-  pub made : (t e out : List ℤ) (more n : ℕ) (r : Walking) → length e ≡ 0 → sound_of s ≡ true → (totals_of s).n ≤ length l → stands more n e ≡ into t 0 (whole s i) → standing r out ≡ into (e ++ l) 0 (whole s i) → listed n out ≡ list_of s i l
-  made t [] out more n r z h k f g =
+  pub made : (tried out : List ℤ) (more n : ℕ) (r : Option Reached) → sound_of s ≡ true → (totals_of s).n ≤ length l → stands more n tried ≡ into [] 0 (whole s i) → standing r out ≡ into l 0 (whole s i) → listed n out ≡ list_of s i l
+  made tried out more n r h k f g =
       let fit : (totals_of s).nodes ≤ length l = omega (arith, within_n s h) in
-      keys_written l t [] out more n (totals_of s).nodes r (whole s i) f g (walk-within _ _ _ _ _ _) fit ∙ by_walk h k
-  made t (x ∷ e) out more n r z h k f g = absurd (omega arith)
+      keys_written l [] tried out more n (totals_of s).nodes r (whole s i) f g (walk-within _ _ _ _ _ _) fit ∙ by_walk h k

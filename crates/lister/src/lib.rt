@@ -8,19 +8,13 @@ ghost use Rattle.tables.specs.World.{world};
 ghost use Rattle.listing.specs.Listing.{list_of};
 ghost use Rattle.lister.specs.Lists.{left};
 
-use crate::walk::{Walking, walk};
+use crate::walk::{Reached, walk};
 use checking::is_sound;
 use shapes::{Board, Phase, Refusal};
 use tables::ROOT;
 
-// How many keys stand in the list, or why it was left as it was.
-#[derive(Clone, Copy)]
-pub enum Listing {
-    Keys(usize),
-    Refused(Refusal),
-}
-
 // 01, 'Version listing'. The first walk writes nothing: its list has no places.
+#[tactic(auto, using(crate::proofs::Whole::not_sound, crate::proofs::Whole::too_short, crate::proofs::Whole::few_nodes, crate::proofs::Whole::refused_crooked), unfolding(crate::specs::Lists::left, crate::specs::Lists::standing))]
 pub fn list(
     board: Board,
     i: Phase,
@@ -29,21 +23,24 @@ pub fn list(
     pending: &[u32],
     found: &[i32],
     keys: &mut [i32],
-) -> Listing
+) -> Result<usize, Refusal>
     ensures { left result keys.new ≡ list_of (world board nodes.now records.now pending.now found.now) i keys.old }
 {
     if !is_sound(board, nodes, records, pending, found) {
-        return Listing::Refused(Refusal::Table);
+        return Err(Refusal::Table);
     }
     let t = board.totals;
     if keys.len() < t.n as usize {
-        return Listing::Refused(Refusal::Table);
+        return Err(Refusal::Table);
     }
     let used = t.nodes;
-    let tried = walk(used, used, nodes, i, ROOT, used, &mut keys[0..0], 0);
-    let Walking::On(_, count) = tried else {
-        return Listing::Refused(Refusal::Crooked);
+    let start = Reached {
+        leaves: used,
+        at: 0,
     };
-    walk(used, used, nodes, i, ROOT, used, keys, 0);
-    Listing::Keys(count)
+    let Some(end) = walk(used, used, nodes, i, ROOT, start, &mut []) else {
+        return Err(Refusal::Crooked);
+    };
+    walk(used, used, nodes, i, ROOT, start, keys);
+    Ok(end.at)
 }

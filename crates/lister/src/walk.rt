@@ -7,57 +7,52 @@ ghost use Rattle.lister.specs.Lists.{standing, into};
 use fields::{is_internal, number_of, put_key, rank_at, read_child};
 use shapes::{Key, NodeNo, Phase};
 
-// Crooked; or how many leaves may still be met, and the place of the next key.
+// How many leaves may still be met, and the place of the next key.
 #[derive(Clone, Copy)]
-pub enum Walking {
-    Crooked,
-    On(u32, usize),
+pub struct Reached {
+    pub leaves: u32,
+    pub at: usize,
 }
 
 // Only a finite key is listed; an infinite one is a leaf met all the same.
-fn at_leaf(nodes: &[u32], x: NodeNo, leaves: u32, keys: &mut [i32], at: usize) -> Walking
-    requires { at + leaves ≤ most_n }
-    ensures { standing result keys.new ≡ into keys.old at (at_leaf nodes.now x leaves) }
+#[tactic(auto, using(crate::proofs::Levels::leaf_finite, crate::proofs::Levels::leaf_infinite, crate::proofs::Levels::no_leaf), unfolding(crate::specs::Lists::standing))]
+fn at_leaf(nodes: &[u32], x: NodeNo, from: Reached, keys: &mut [i32]) -> Option<Reached>
+    requires { from.at + from.leaves ≤ most_n }
+    ensures { standing result keys.new ≡ into keys.old from.at (at_leaf nodes.now x from.leaves) }
 {
-    if leaves == 0 {
-        return Walking::Crooked;
-    }
+    let leaves = from.leaves.checked_sub(1)?;
     let k = rank_at(nodes, x);
     if k.class == 0 {
-        put_key(keys, at, number_of(Key(k.word)));
-        return Walking::On(leaves - 1, at + 1);
+        put_key(keys, from.at, number_of(Key(k.word)));
+        return Some(Reached {
+            leaves,
+            at: from.at + 1,
+        });
     }
-    Walking::On(leaves - 1, at)
+    Some(Reached { leaves, ..from })
 }
 
-// The levels that may still be gone down fall at each call. What a crooked walk wrote is nobody's: it is tried on no places first.
+// The levels that may still be gone down fall at each call. None where the version is crooked: what such a walk wrote is nobody's, so
+// it is tried on no places first.
+#[tactic(auto, using(crate::proofs::Levels::meets_leaf, crate::proofs::Levels::too_deep, crate::proofs::Levels::left_lost, crate::proofs::Levels::right_lost, crate::proofs::Levels::fits_still), unfolding(crate::specs::Lists::standing, crate::specs::Lists::into))]
 pub fn walk(
     levels: u32,
     used: u32,
     nodes: &[u32],
     i: Phase,
     x: NodeNo,
-    leaves: u32,
+    from: Reached,
     keys: &mut [i32],
-    at: usize,
-) -> Walking
-    requires { at + leaves ≤ most_n }
-    ensures { standing result keys.new ≡ into keys.old at (walk levels used nodes.now i x leaves) }
+) -> Option<Reached>
+    requires { from.at + from.leaves ≤ most_n }
+    ensures { standing result keys.new ≡ into keys.old from.at (walk levels used nodes.now i x from.leaves) }
 {
     if !is_internal(nodes, x) {
-        return at_leaf(nodes, x, leaves, keys, at);
+        return at_leaf(nodes, x, from, keys);
     }
-    if levels == 0 {
-        return Walking::Crooked;
-    }
-    let Some(a) = read_child(used, nodes, x, true, i) else {
-        return Walking::Crooked;
-    };
-    let Some(b) = read_child(used, nodes, x, false, i) else {
-        return Walking::Crooked;
-    };
-    let Walking::On(more, next) = walk(levels - 1, used, nodes, i, a, leaves, keys, at) else {
-        return Walking::Crooked;
-    };
-    walk(levels - 1, used, nodes, i, b, more, keys, next)
+    let below = levels.checked_sub(1)?;
+    let a = read_child(used, nodes, x, true, i)?;
+    let b = read_child(used, nodes, x, false, i)?;
+    let next = walk(below, used, nodes, i, a, from, keys)?;
+    walk(below, used, nodes, i, b, next, keys)
 }

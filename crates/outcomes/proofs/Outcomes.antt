@@ -2,8 +2,8 @@
 use Rattle.std.specs.Prelude.{refl}
 use Rattle.laws.specs.Outcomes.{one_outcome, answer, one_answer}
 use Rattle.groups.specs.Format.{left}
-use Rattle.laps.specs.Laps.{told_key, told_lap, told_pad}
-use Rattle.laps.specs.Answers.{key_answer, lap_answer, pad_answer, key_back, lap_back, pad_back}
+use Rattle.laps.specs.Laps.{told}
+use Rattle.laps.specs.Answers as lap
 use Rattle.lister.specs.Lists as listing
 use Rattle.lister.specs.Answers.{back, comes_back}
 use Rattle.schedule.specs.Writing as writing
@@ -20,9 +20,9 @@ outcomes = record {
   signed = one_answer _;
   read_signed = one_answer _;
   write_signed = one_outcome (λ r x. with r x.1.0) (λ a o. left o.0 o.1) (λ d. (d.answer, d.buffer)) (λ a o. refl) _;
-  key_of_lap = one_outcome answer (λ a. told_key) key_answer (λ a. key_back) _;
-  lap_of_key = one_outcome answer (λ a. told_lap) lap_answer (λ a. lap_back) _;
-  difference_of_pad = one_outcome answer (λ a. told_pad) pad_answer (λ a. pad_back) _;
+  key_of_lap = one_outcome answer (λ a. told) lap.back (λ a. lap.comes_back) _;
+  lap_of_key = one_outcome answer (λ a. told) lap.back (λ a. lap.comes_back) _;
+  difference_of_pad = one_outcome answer (λ a. told) lap.back (λ a. lap.comes_back) _;
   fresh = writes (λ x. x.1.1.1.1) _;
   is_sound = one_answer _;
   start_insert = reads (λ a. a.1.1.1) _;

@@ -166,15 +166,15 @@ pub enum Answer {
     NoPhase,
 }
 
-// The refusals of a call on tables, by name; their numbers are in specs/.
+// The refusals of a call on tables, by name and number; 6 is a lap's.
 #[derive(Clone, Copy)]
 pub enum Refusal {
-    Table,
-    Size,
-    Worker,
-    Busy,
-    Idle,
-    Crooked,
+    Table = 1,
+    Size = 2,
+    Worker = 3,
+    Busy = 4,
+    Idle = 5,
+    Crooked = 7,
 }
 
 // What a start or a turn comes to: a refusal, an answer, or none yet.

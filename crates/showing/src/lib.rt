@@ -6,7 +6,7 @@
 ghost use Rattle.std.specs.Prelude.{◌≡◌, ◌+◌, ◌≤◌, length};
 ghost use Rattle.schedule.specs.Numbers.{most_bytes};
 
-use input::{Input, read_all, room};
+use input::{read_all, room};
 use lines::Line;
 use playing::play;
 use reader::{read_command, read_opening};
@@ -166,13 +166,13 @@ pub enum Ending {
 pub fn show_from<R: Read, W: Write>(from: &mut R, to: &mut W) -> Ending {
     let mut file = room();
     match read_all(from, &mut file) {
-        Input::Came(size) => {
+        Ok(size) => {
             if show(to, &file[..size]) {
                 Ending::Shown
             } else {
                 Ending::Unwritable
             }
         }
-        Input::Unreadable => Ending::Unreadable,
+        Err(_) => Ending::Unreadable,
     }
 }

@@ -10,26 +10,21 @@ use lines::put_next_signed;
 fn key_at(found: &[i32], from: usize, i: usize) -> i32
     ensures { result ≡ get_or found.now (from + i) (pos 0) }
 {
-    if found.len() <= from {
-        return 0;
-    }
-    if found.len() - from <= i {
-        return 0;
-    }
-    found[from + i]
+    from.checked_add(i)
+        .and_then(|at| found.get(at))
+        .copied()
+        .unwrap_or(0)
 }
 
 // So many keys from a place on, a blank before each.
+#[tactic(auto, using(lines::specs::Keys::fill_no_keys, lines::specs::Keys::fill_one_more_key, lines::specs::Lengths::no_keys_length, lines::specs::Lengths::one_more_length))]
 pub fn put_keys(found: &[i32], from: usize, n: usize, out: &mut [u8], at: usize) -> usize
     ensures out_after { page result out.new ≡ fill (keys_text found.now from n) (page at out.old) }
     ensures n_len_bound { length (keys_text found.now from n) ≤ n * key_room }
 {
-    let mut i = 0;
     let mut place = at;
-    while i < n {
-        let key = key_at(found, from, i);
-        place = put_next_signed(key, out, place);
-        i += 1;
+    for i in 0..n {
+        place = put_next_signed(key_at(found, from, i), out, place);
     }
     place
 }

@@ -16,6 +16,7 @@ const PAGE: usize = 16384;
 
 const LINE_FEED: u8 = 10;
 
+#[tactic(auto, using(crate::proofs::Words::put, crate::proofs::Words::answered_fits, lines::specs::Keys::answered_line))]
 fn answered(
     command: u32,
     worker: u32,
@@ -35,6 +36,7 @@ fn answered(
     put_byte(LINE_FEED, out, last)
 }
 
+#[tactic(auto, using(crate::proofs::Words::put, crate::proofs::Words::refused_fits), unfolding(lines::specs::Text::refused_text))]
 fn refused(command: u32, worker: u32, refusal: Refusal, out: &mut [u8; PAGE]) -> usize
     ensures { page result out.new ≡ spelt (refused_text command worker refusal) out.old }
 {
@@ -45,6 +47,7 @@ fn refused(command: u32, worker: u32, refusal: Refusal, out: &mut [u8; PAGE]) ->
     put_byte(LINE_FEED, out, last)
 }
 
+#[tactic(auto, using(crate::proofs::Words::put, lines::specs::Lengths::end_fits), unfolding(lines::specs::Text::end_text))]
 fn end(commands: u32, nodes: u32, records: u32, counter: u32, out: &mut [u8; PAGE]) -> usize
     ensures { page result out.new ≡ spelt (end_text commands nodes records counter) out.old }
 {
@@ -56,6 +59,7 @@ fn end(commands: u32, nodes: u32, records: u32, counter: u32, out: &mut [u8; PAG
     put_byte(LINE_FEED, out, last)
 }
 
+#[tactic(auto, using(crate::proofs::Words::put, lines::specs::Lengths::bad_fits), unfolding(lines::specs::Text::bad_text))]
 fn bad(command: u32, out: &mut [u8; PAGE]) -> usize
     ensures { page result out.new ≡ spelt (bad_text command) out.old }
 {
@@ -66,6 +70,7 @@ fn bad(command: u32, out: &mut [u8; PAGE]) -> usize
 
 // Writes a line at the start of the page, and answers its length. A scan's keys stand in the found list from a place on; what lies
 // past its end counts as 0, and no more than 1,024 are listed.
+#[tactic(auto, unfolding(lines::specs::Text::line_text, lines::specs::Text::keys_of, lines::specs::Page::spelt))]
 pub fn spell(line: Line, found: &[i32], from: usize, out: &mut [u8; PAGE]) -> usize
     ensures { page result out.new ≡ spelt (text_of line found.now from) out.old }
 {

@@ -4,9 +4,7 @@
 ghost use Rattle.std.specs.Prelude.{◌≡◌};
 ghost use Rattle.steps.specs.Attempt.{room, take_three, take_copy, copy_word};
 
-use shapes::{
-    Answer, Decision, Effect, Key, Link, LinkStep, Locals, NodeNo, Place, RecordNo, Totals,
-};
+use shapes::{Answer, Decision, Effect, Key, Link, LinkStep, Locals, NodeNo, Place, RecordNo, Totals};
 use tables::{DELETE_TAKES, INSERT_TAKES};
 
 // Totals may be any numbers, so the sums are made in 64 bits.

@@ -4,7 +4,7 @@
 
 ghost use Rattle.std.specs.Prelude.{◌≤◌, length};
 
-use input::{Input, read_all, room};
+use input::{read_all, room};
 use showing::{Ending, show_from};
 use std::fs::File;
 use std::io::{self, Read};
@@ -72,7 +72,7 @@ fn play_all(rt: &(impl Files + Print + Eprint), names: &[u8]) {
 fn main(rt: HostRuntime) {
     let mut names = room();
     match read_all(&mut rt.stdin(), &mut names) {
-        Input::Came(size) => play_all(&rt, &names[..size]),
-        Input::Unreadable => fail(&rt, "vectors: the names cannot be read"),
+        Ok(size) => play_all(&rt, &names[..size]),
+        Err(_) => fail(&rt, "vectors: the names cannot be read"),
     }
 }

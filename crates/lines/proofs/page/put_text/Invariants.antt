@@ -1,13 +1,7 @@
--- `put_text` fills the page with the text. The loop's invariant: what is left of the text, put from the place reached, gives what the
--- whole text does. The measure is how many bytes are left.
-use mathlib.Core.Path.{◌≡◌}
-use Prim.Native.Nat.{◌-◌, ◌≤◌}
-use lib.ListN.{length, drop}
+-- The bytes before the one reached have been put, and give what they give from the start.
+use Rattle.std.proofs.Common.{◌≡◌, take}
 use Rattle.lines.specs.Page.{page, fill}
 use Rattle.lines.proofs.page.put_text.Given as goal
 
-abbrev pub invariant-loop-i : goal.invariant-loop-i
-invariant-loop-i l = (l.i ≤ length l.text) × (length l.out ≡ length l.initial.out) × (fill (drop l.i l.text) (page l.place l.out) ≡ fill l.text (page l.at l.initial.out))
-
-abbrev pub decreases-loop-i : goal.decreases-loop-i
-decreases-loop-i l = length l.text - l.i
+abbrev pub invariant-loop-byte : goal.invariant-loop-byte
+invariant-loop-byte l = page l.place l.out ≡ fill (take l.byte-index l.text) (page l.at l.initial.out)
