@@ -3,7 +3,7 @@
 // What fails is said on standard error, no `end` is printed, and the exit status is 1.
 #![tactic(auto)]
 
-use showing::{Ending, show_from};
+use showing::{Failure, show_from};
 use std::process::ExitCode;
 
 fn failed(rt: &impl Eprint, what: &str) -> ExitCode {
@@ -13,8 +13,8 @@ fn failed(rt: &impl Eprint, what: &str) -> ExitCode {
 
 fn main(rt: HostRuntime) -> ExitCode {
     match show_from(&mut rt.stdin(), &mut rt.stdout()) {
-        Ending::Shown => ExitCode::SUCCESS,
-        Ending::Unreadable => failed(&rt, "evening: its schedule cannot be read"),
-        Ending::Unwritable => failed(&rt, "evening: its lines cannot be written"),
+        Ok(()) => ExitCode::SUCCESS,
+        Err(Failure::Unreadable) => failed(&rt, "evening: its schedule cannot be read"),
+        Err(Failure::Unwritable) => failed(&rt, "evening: its lines cannot be written"),
     }
 }

@@ -1,15 +1,26 @@
--- Bytes within what is left of a list, counted from the list's own beginning.
-use Prim.Native.Nat.{ℕ, ◌+◌, ◌-◌, ◌≤◌}
-use mathlib.Core.Path.{◌≡◌, ap}
-use mathlib.Core.List.{List}
-use native.Mathlib.Omega.{arith}
-use lib.ListN.{length, take, drop, length-drop}
-use lib.Seq.{take_all}
+-- What reads at the front of some bytes stands within them, and so does a line on its page.
+use Rattle.std.proofs.Common.{◌≡◌, ℕ, ◌≤◌, List, length, sym, Some}
+use Rattle.schedule.specs.declared.Command.{Command}
+use Rattle.schedule.specs.declared.Opening.{Opening}
+use Rattle.schedule.specs.Reading.{command_at, opening_at}
+use Rattle.schedule.specs.Numbers.{most_bytes}
+use Rattle.schedule.specs.Openings.{opening_opens}
+use Rattle.schedule.proofs.Standing.{command_stands}
+use Rattle.lines.specs.Page.{page, spelt, spelt-counts}
 
-pub part-within : (l : List ℕ) (a t : ℕ) → t ≤ length (take (length l - a) (drop a l)) → a ≤ length l → a + t ≤ length l
-part-within l a t h le =
-    let all : length (take (length l - a) (drop a l)) ≡ length (drop a l) = ap length (take_all (length l - a) (drop a l) (omega (arith, length-drop a l))) in
-    omega (arith, all, length-drop a l, h, le)
+module _ (s : List ℕ) (c : Command) (taken : ℕ) (reads : Some (c, taken) ≡ command_at s) where
+  pub command_some : 1 ≤ taken
+  command_some = (command_stands s c taken (sym reads)).some
 
-pub part-short : (l : List ℕ) (a : ℕ) → length (take (length l - a) (drop a l)) ≤ length l
-part-short l a = omega (arith, ap length (take_all (length l - a) (drop a l) (omega (arith, length-drop a l))), length-drop a l)
+  pub command_there : taken ≤ length s
+  command_there = (command_stands s c taken (sym reads)).there
+
+module _ (s : List ℕ) (o : Opening) (start : ℕ) (reads : Some (o, start) ≡ opening_at s) where
+  pub opening_there : start ≤ length s
+  opening_there = (opening_opens s o.n o.m o.p start (sym reads)).there
+
+  pub file_short : length s ≤ most_bytes
+  file_short = (opening_opens s o.n o.m o.p start (sym reads)).few
+
+pub spelt_within : (size : ℕ) (bytes text was : List ℕ) → page size bytes ≡ spelt text was → size ≤ length bytes
+spelt_within size bytes text was e = (spelt-counts size bytes text was e).0

@@ -3,136 +3,97 @@
 // No contract says what is written. All else is a proved function of a library.
 #![tactic(auto)]
 
-ghost use Rattle.std.specs.Prelude.{◌≡◌, ◌+◌, ◌≤◌, length};
+ghost use Rattle.std.specs.Prelude.{◌≤◌, length};
 ghost use Rattle.schedule.specs.Numbers.{most_bytes};
 
+use fresh::fresh;
 use input::{read_all, room};
 use lines::Line;
 use playing::play;
 use reader::{read_command, read_opening};
+use schedule::Command;
 use shapes::Board;
 use spelling::spell;
+use std::io;
 use std::io::{Read, Write};
-use tally::{Played, end_line, keys_place, no_board};
+use tally::{end_line, keys_place, no_board};
 
-// What became of a command: its bytes, or none where the evening ended with it; and whether its line was written.
-#[derive(Clone, Copy)]
-struct Shown {
-    taken: usize,
-    said: bool,
+// The tables of an evening, their board, and the turn counts.
+#[derive(Drop)]
+struct Evening<'a> {
     board: Board,
     turns: [u64; 8],
+    nodes: &'a mut [u32],
+    records: &'a mut [u32],
+    pending: &'a mut [u32],
+    found: &'a mut [i32],
+}
+
+impl Evening<'_> {
+    // Plays a command, and hands on what there is to print.
+    fn play(&mut self, number: u32, command: Command) -> Line {
+        let played = play(
+            number,
+            command,
+            self.board,
+            self.turns,
+            self.nodes,
+            self.records,
+            self.pending,
+            self.found,
+        );
+        let turns = played.turns;
+        self.turns = turns;
+        self.board = played.board;
+        played.line
+    }
 }
 
 // Room for the longest line.
 const PAGE: usize = 16_384;
 
-// Writes a line, with its keys from place `from` of the found ones; false where it cannot be written.
-fn say<W: Write>(out: &mut W, line: Line, found: &[i32], from: usize) -> bool {
+// Writes a line, with its keys from place `from` of the found ones.
+fn say<W: Write>(out: &mut W, line: Line, found: &[i32], from: usize) -> io::Result<()> {
     let mut page = [0u8; PAGE];
     let size = spell(line, found, from, &mut page);
-    out.write_all(&page[..size]).is_ok()
+    out.write_all(&page[..size])
 }
 
-// A command that does not read.
-fn say_unread<W: Write>(
-    out: &mut W,
-    which: u32,
-    board: Board,
-    turns: [u64; 8],
-    found: &[i32],
-) -> Shown
-    ensures { result.taken ≡ 0 }
-{
-    let said = say(out, Line::Bad(which), found, 0);
-    Shown {
-        taken: 0,
-        said,
-        board,
-        turns,
-    }
-}
-
-// A command of so many bytes that has been played.
-fn say_played<W: Write>(out: &mut W, taken: usize, played: Played, found: &[i32]) -> Shown
-    ensures { result.taken ≡ taken }
-{
-    let line = played.line;
-    let board = played.board;
-    let turns = played.turns;
-    let said = say(out, line, found, keys_place(board.totals, line));
-    Shown {
-        taken,
-        said,
-        board,
-        turns,
-    }
-}
-
-// One command at the front of what is left.
-fn show_command<W: Write>(
-    out: &mut W,
-    which: u32,
-    commands: &[u8],
-    at: usize,
-    board: Board,
-    turns: [u64; 8],
-    nodes: &mut [u32],
-    records: &mut [u32],
-    pending: &mut [u32],
-    found: &mut [i32],
-) -> Shown
-    requires { at ≤ length commands.now }
-    ensures { at + result.taken ≤ length commands.now }
-{
-    let Some((command, taken)) = read_command(&commands[at..]) else {
-        return say_unread(out, which, board, turns, found);
-    };
-    let played = play(which, command, board, turns, nodes, records, pending, found);
-    say_played(out, taken, played, found)
-}
-
-// The commands behind the opening, each handing on the rest, until none is left or one does not read.
+// The commands behind the opening, until none is left or one does not read.
+#[tactic(auto, using(crate::proofs::Parts::command_some, crate::proofs::Parts::command_there))]
 fn show_commands<W: Write>(
     out: &mut W,
     commands: &[u8],
-    first: Board,
-    nodes: &mut [u32],
-    records: &mut [u32],
-    pending: &mut [u32],
-    found: &mut [i32],
-) -> bool
+    evening: &mut Evening<'_>,
+) -> io::Result<()>
     requires { length commands.now ≤ most_bytes }
 {
-    let mut board = first;
-    let mut turns = [0u64; 8];
+    let mut rest = commands;
     let mut number = 0;
-    let mut at = 0;
-    while at < commands.len() {
+    while !rest.is_empty() {
         number += 1;
-        let shown = show_command(
-            out, number, commands, at, board, turns, nodes, records, pending, found,
-        );
-        board = shown.board;
-        turns = shown.turns;
-        if shown.taken == 0 || !shown.said {
-            return shown.said;
-        }
-        at += shown.taken;
+        let Some((command, taken)) = read_command(rest) else {
+            return say(out, Line::Bad(number), &[], 0);
+        };
+        let line = evening.play(number, command);
+        let from = keys_place(evening.board.totals, line);
+        say(out, line, evening.found, from)?;
+        rest = &rest[taken..];
     }
-    say(out, end_line(number, board.totals), found, 0)
+    say(out, end_line(number, evening.board.totals), &[], 0)
 }
 
-// False where the lines cannot be written.
-pub fn show<W: Write>(out: &mut W, file: &[u8]) -> bool {
+// Plays a schedule and writes its lines.
+#[tactic(auto, using(crate::proofs::Parts::opening_there, crate::proofs::Parts::file_short))]
+pub fn show<W: Write>(out: &mut W, file: &[u8]) -> io::Result<()> {
+    let Some((opening, start)) = read_opening(file) else {
+        return say(out, Line::Bad(0), &[], 0);
+    };
     let mut nodes = [0u32; 10_240];
     let mut records = [0u32; 11_264];
     let mut pending = [0u32; 8_192];
     let mut found = [0i32; 8_192];
-    let Some((opening, start)) = read_opening(file) else {
-        return say(out, Line::Bad(0), &found, 0);
-    };
-    let begun = fresh::fresh(
+    let begun = fresh(
         no_board(),
         opening.n,
         opening.m,
@@ -142,37 +103,27 @@ pub fn show<W: Write>(out: &mut W, file: &[u8]) -> bool {
         &mut pending,
         &mut found,
     );
-    let board = begun.board;
-    show_commands(
-        out,
-        &file[start..],
-        board,
-        &mut nodes,
-        &mut records,
-        &mut pending,
-        &mut found,
-    )
+    let mut evening = Evening {
+        board: begun.board,
+        turns: [0; 8],
+        nodes: &mut nodes,
+        records: &mut records,
+        pending: &mut pending,
+        found: &mut found,
+    };
+    show_commands(out, &file[start..], &mut evening)
 }
 
-// How an evening ended: all its lines written, or why not.
-#[derive(Clone, Copy)]
-pub enum Ending {
-    Shown,
+// Why an evening was not shown whole.
+#[derive(Clone, Copy, Debug, PartialEq, Eq)]
+pub enum Failure {
     Unreadable,
     Unwritable,
 }
 
 // The schedule that a reader holds, its lines written to a writer.
-pub fn show_from<R: Read, W: Write>(from: &mut R, to: &mut W) -> Ending {
+pub fn show_from<R: Read, W: Write>(from: &mut R, to: &mut W) -> Result<(), Failure> {
     let mut file = room();
-    match read_all(from, &mut file) {
-        Ok(size) => {
-            if show(to, &file[..size]) {
-                Ending::Shown
-            } else {
-                Ending::Unwritable
-            }
-        }
-        Err(_) => Ending::Unreadable,
-    }
+    let size = read_all(from, &mut file).map_err(|_| Failure::Unreadable)?;
+    show(to, &file[..size]).map_err(|_| Failure::Unwritable)
 }

@@ -2,10 +2,8 @@
 // What fails is said on standard error.
 #![tactic(auto)]
 
-ghost use Rattle.std.specs.Prelude.{◌≤◌, length};
-
 use input::{read_all, room};
-use showing::{Ending, show_from};
+use showing::{Failure, show_from};
 use std::fs::File;
 use std::io::{self, Read};
 use std::rt::Files;
@@ -19,9 +17,9 @@ fn fail(rt: &impl Eprint, what: &str) {
 
 fn play<R: Read>(rt: &(impl Print + Eprint), file: &mut R) {
     match show_from(file, &mut io::writer(rt)) {
-        Ending::Shown => {}
-        Ending::Unreadable => fail(rt, "vectors: a schedule cannot be read"),
-        Ending::Unwritable => fail(rt, "vectors: lines cannot be written"),
+        Ok(()) => {}
+        Err(Failure::Unreadable) => fail(rt, "vectors: a schedule cannot be read"),
+        Err(Failure::Unwritable) => fail(rt, "vectors: lines cannot be written"),
     }
 }
 
@@ -48,24 +46,10 @@ fn play_named(rt: &(impl Files + Print + Eprint), name: &[u8]) {
     }
 }
 
-// Where the name that begins at `start` ends.
-fn name_end(names: &[u8], start: usize) -> usize
-    requires { start ≤ length names.now }
-    ensures lower_bound { start ≤ result }
-    ensures upper_bound { result ≤ length names.now }
-{
-    match names[start..].iter().position(|byte| *byte == LINE_FEED) {
-        Some(size) => start + size,
-        None => names.len(),
-    }
-}
-
+// The last name may stand without a line feed.
 fn play_all(rt: &(impl Files + Print + Eprint), names: &[u8]) {
-    let mut at = 0;
-    while at < names.len() {
-        let end = name_end(names, at);
-        play_named(rt, &names[at..end]);
-        at = end + 1;
+    for line in names.split_inclusive(|byte| *byte == LINE_FEED) {
+        play_named(rt, line.strip_suffix(&[LINE_FEED]).unwrap_or(line));
     }
 }
 

@@ -1,9 +1,9 @@
--- Each command that reads has a byte at least, within what is left. The measure is what is left.
-use Rattle.std.proofs.Common.{length, ◌-◌, ◌≤◌}
+-- Each command that reads has a byte at least, so there are no more commands than bytes before the rest. The measure is the rest.
+use Rattle.std.proofs.Common.{length, ◌+◌, ◌≤◌}
 use Rattle.showing.proofs.show_commands.Given as goal
 
-abbrev pub invariant-loop-at : goal.invariant-loop-at
-invariant-loop-at g l = record { within : l.at ≤ length l.commands; counted : l.number ≤ l.at }
+abbrev pub invariant-loop-rest : goal.invariant-loop-rest
+invariant-loop-rest g l = l.number + length l.rest ≤ length l.commands
 
-abbrev pub decreases-loop-at : goal.decreases-loop-at
-decreases-loop-at g l = length l.commands - l.at
+abbrev pub decreases-loop-rest : goal.decreases-loop-rest
+decreases-loop-rest g l = length l.rest
