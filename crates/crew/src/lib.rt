@@ -113,12 +113,5 @@ fn worker_ok(board: Board, records: &[u32], pending: &[u32], w: u32) -> bool
 pub fn workers_ok(board: Board, records: &[u32], pending: &[u32]) -> bool
     ensures { (ns : List ℕ) (fs : List ℤ) → result ≡ every board.totals.p (worker_ok (world board ns records.now pending.now fs)) }
 {
-    let mut w = board.totals.p;
-    while 0 < w {
-        w -= 1;
-        if !worker_ok(board, records, pending, w) {
-            return false;
-        }
-    }
-    true
+    (0..board.totals.p).all(|w| worker_ok(board, records, pending, w))
 }

@@ -18,18 +18,11 @@ fn pending_node_ok(t: Totals, pending: &[u32], w: u32, i: u32) -> bool
     used_node(t, NodeNo(x))
 }
 
-// The nodes that worker w has pending, from the last.
+// The nodes that worker w has pending.
 fn pending_ok(t: Totals, pending: &[u32], w: u32, count: u32) -> bool
     ensures { result ≡ every count (λ i. used_node t (node (get_or pending.now (spot t w i) 0))) }
 {
-    let mut i = count;
-    while 0 < i {
-        i -= 1;
-        if !pending_node_ok(t, pending, w, i) {
-            return false;
-        }
-    }
-    true
+    (0..count).all(|i| pending_node_ok(t, pending, w, i))
 }
 
 // Pending and found counts are at most N, and pending nodes are used; they are looked at only if there are few.

@@ -80,12 +80,5 @@ fn node_ok(t: Totals, ns: &[u32], n: u32) -> bool
 pub fn nodes_ok(t: Totals, ns: &[u32]) -> bool
     ensures { result ≡ every t.nodes (node_ok t ns.now) }
 {
-    let mut n = t.nodes;
-    while 0 < n {
-        n -= 1;
-        if !node_ok(t, ns, n) {
-            return false;
-        }
-    }
-    true
+    (0..t.nodes).all(|n| node_ok(t, ns, n))
 }

@@ -31,14 +31,7 @@ fn dummy_word_ok(rs: &[u32], f: u32) -> bool
 pub fn dummy_ok(rs: &[u32]) -> bool
     ensures { result ≡ dummy_ok rs.now }
 {
-    let mut f = RECORD_WIDTH;
-    while 0 < f {
-        f -= 1;
-        if !dummy_word_ok(rs, f) {
-            return false;
-        }
-    }
-    true
+    (0..RECORD_WIDTH).all(|f| dummy_word_ok(rs, f))
 }
 
 fn entry_ok(t: Totals, e: Entry) -> bool
@@ -54,18 +47,11 @@ fn count_ok(ns: &[u32], par: NodeNo, c: u32) -> bool
     (c == 0) | (((c == INSERT_LISTS) | (c == DELETE_LISTS)) & is_internal(ns, par))
 }
 
-// The nodes that record r lists, from the last.
+// The nodes that record r lists, from 1.
 fn entries_ok(t: Totals, rs: &[u32], r: RecordNo, count: u32) -> bool
     ensures { result ≡ every count (λ i. entry_ok t (entry_at rs.now r (suc i))) }
 {
-    let mut i = count;
-    while 0 < i {
-        if !entry_ok(t, entry_at(rs, r, i)) {
-            return false;
-        }
-        i -= 1;
-    }
-    true
+    (1..=count).all(|i| entry_ok(t, entry_at(rs, r, i)))
 }
 
 // The entries are looked at only if there are few.
@@ -88,12 +74,5 @@ fn record_ok(t: Totals, ns: &[u32], rs: &[u32], n: u32) -> bool
 pub fn records_ok(t: Totals, ns: &[u32], rs: &[u32]) -> bool
     ensures { result ≡ every (t.records - 1) (λ i. record_ok (tables t ns.now rs.now) (suc i)) }
 {
-    let mut n = t.records;
-    while 1 < n {
-        n -= 1;
-        if !record_ok(t, ns, rs, n) {
-            return false;
-        }
-    }
-    true
+    (1..t.records).all(|n| record_ok(t, ns, rs, n))
 }
