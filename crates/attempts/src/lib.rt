@@ -8,6 +8,7 @@ use shapes::{Answer, Decision, Key, Kind, Locals, MaybeNode, Place, Totals};
 use tables::ROOT;
 
 // With gp absent, or p the Root so that gp has no word, line 182 is crooked.
+#[tactic(auto, unfolding(steps::specs::Attempt::reaches182, tables::specs::Names::same_node, laws::specs::Choice::pick))]
 fn reaches182(v: Locals, gp: MaybeNode) -> Decision
     ensures { result ≡ reaches182 v gp }
 {
@@ -15,7 +16,7 @@ fn reaches182(v: Locals, gp: MaybeNode) -> Decision
     let MaybeNode::At(_) = gp else {
         return Decision::Crooked;
     };
-    if fields::same_node(p, ROOT) {
+    if p == ROOT {
         Decision::Crooked
     } else {
         hand::go_to(v, Place::Sibling182)
@@ -55,6 +56,7 @@ fn validated(totals: Totals, nodes: &[u32], kind: Kind, k: Key, v: Locals) -> De
 }
 
 // p's word, then gp's if that agreed and p is not the Root.
+#[tactic(auto, unfolding(steps::specs::Attempt::word66, steps::specs::Hand::through, tables::specs::Names::same_node, laws::specs::Choice::pick))]
 pub fn word66(totals: Totals, nodes: &[u32], kind: Kind, k: Key, v: Locals) -> Decision
     ensures { result ≡ word66 totals nodes.now kind k v }
 {
@@ -65,7 +67,7 @@ pub fn word66(totals: Totals, nodes: &[u32], kind: Kind, k: Key, v: Locals) -> D
     };
     let word = fields::update_at(nodes, p);
     if fields::same_update(word, pup) {
-        if fields::same_node(p, ROOT) {
+        if p == ROOT {
             validated(totals, nodes, kind, k, v)
         } else {
             hand::go_to(v, Place::Grand66)

@@ -7,12 +7,12 @@ use nodes::{child_at, is_internal, phase_at, prev_at};
 use shapes::{MaybeNode, NodeNo, Phase};
 
 // Lines 46 and 47: along prev to the first node of a phase no later than seq, in at most `used` steps.
+#[tactic(auto, using(crate::proofs::Walks::stops, crate::proofs::Walks::goes, crate::proofs::Walks::lost, crate::proofs::Walks::over))]
 fn walk_back(used: u32, ns: &[u32], seq: Phase, first: NodeNo) -> MaybeNode
     ensures { result ≡ walk_back used ns.now seq (At first) }
 {
     let mut x = first;
-    let mut steps = used;
-    while 0 < steps {
+    for _taken in 0..used {
         let phase = phase_at(ns, x);
         if phase.0 <= seq.0 {
             return MaybeNode::At(x);
@@ -21,11 +21,11 @@ fn walk_back(used: u32, ns: &[u32], seq: Phase, first: NodeNo) -> MaybeNode
             return MaybeNode::Absent;
         };
         x = prev;
-        steps -= 1;
     }
     MaybeNode::Absent
 }
 
+#[tactic(auto, unfolding(tables::specs::Versions::read_child))]
 pub fn read_child(used: u32, ns: &[u32], x: NodeNo, left: bool, seq: Phase) -> MaybeNode
     ensures { result ≡ read_child used ns.now x left seq }
 {
@@ -34,6 +34,7 @@ pub fn read_child(used: u32, ns: &[u32], x: NodeNo, left: bool, seq: Phase) -> M
 }
 
 // A node that may be used as a parent: it is there, and internal.
+#[tactic(auto, unfolding(tables::specs::Versions::as_parent, laws::specs::Choice::pick))]
 pub fn as_parent(ns: &[u32], m: MaybeNode) -> MaybeNode
     ensures { result ≡ as_parent ns.now m }
 {

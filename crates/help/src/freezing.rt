@@ -73,14 +73,14 @@ pub fn freeze_cas(nodes: &[u32], records: &[u32], r: RecordNo, i: u32) -> Effect
 }
 
 // Lines 119 and 120, then 115 or 122.
+#[tactic(auto, unfolding(steps::specs::Help::frozen119, tables::specs::Names::same_record, laws::specs::Choice::pick))]
 pub fn frozen119(nodes: &[u32], records: &[u32], r: RecordNo, i: u32) -> HelpMove
     ensures { result ≡ frozen119 nodes.now records.now r i }
 {
     let e = fields::entry_at(records, r, i);
     let x = e.node;
     let word = fields::update_at(nodes, x);
-    let info = word.info;
-    if fields::same_record(info, r) {
+    if word.info == r {
         let count = fields::count_at(records, r);
         if i < count {
             HelpMove::Goes(Effect::Nothing, i + 1, HelpStep::Freeze117)

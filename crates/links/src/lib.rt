@@ -9,6 +9,7 @@ use shapes::{Decision, Key, Link, LinkMove, LinkStep, Locals, MaybeNode, Place, 
 use tables::ROOT;
 
 // A link that holds: lines 65 and 66, 184, 188 and 190.
+#[tactic(auto, unfolding(steps::specs::Attempt::held, tables::specs::Names::same_node, laws::specs::Choice::pick))]
 fn held(totals: Totals, nodes: &[u32], v: Locals, a: Link) -> Decision
     ensures { result ≡ held totals nodes.now v a }
 {
@@ -17,7 +18,7 @@ fn held(totals: Totals, nodes: &[u32], v: Locals, a: Link) -> Decision
     match a {
         Link::Leaf64 => {
             let next = hand::with_pup(v, up);
-            if fields::same_node(p, ROOT) {
+            if p == ROOT {
                 hand::go_to(next, Place::Word66)
             } else {
                 hand::go_to(next, Place::Link(Link::Parent65, LinkStep::Word52))

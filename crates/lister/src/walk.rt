@@ -4,7 +4,7 @@ ghost use Rattle.shapes.specs.Numbers.{most_n};
 ghost use Rattle.listing.specs.Listing.{at_leaf, walk};
 ghost use Rattle.lister.specs.Lists.{standing, into};
 
-use fields::{is_internal, number_of, put_key, rank_at, read_child};
+use fields::{is_internal, number_of, put, rank_at, read_child};
 use shapes::{Key, MaybeNode, NodeNo, Phase};
 
 // Crooked; or how many leaves may still be met, and the place of the next key.
@@ -24,7 +24,7 @@ fn at_leaf(nodes: &[u32], x: NodeNo, leaves: u32, keys: &mut [i32], at: usize) -
     }
     let k = rank_at(nodes, x);
     if k.class == 0 {
-        put_key(keys, at, number_of(Key(k.word)));
+        put(keys, at, number_of(Key(k.word)));
         return Walking::On(leaves - 1, at + 1);
     }
     Walking::On(leaves - 1, at)

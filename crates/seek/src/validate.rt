@@ -25,6 +25,7 @@ fn state53(records: &[u32], up: Update) -> LinkMove
     }
 }
 
+#[tactic(auto, unfolding(steps::specs::Validate::child57, tables::specs::Names::same_node, laws::specs::Choice::pick))]
 fn child57(nodes: &[u32], parent: MaybeNode, child: MaybeNode, left: bool) -> LinkMove
     ensures { result ≡ child57 nodes.now parent child left }
 {
@@ -35,7 +36,7 @@ fn child57(nodes: &[u32], parent: MaybeNode, child: MaybeNode, left: bool) -> Li
         return LinkMove::Crooked;
     };
     let newest = fields::child_at(nodes, x, left);
-    if fields::same_node(newest, c) {
+    if newest == c {
         LinkMove::Holds
     } else {
         LinkMove::Fails

@@ -24,7 +24,7 @@ fn one_less(n: u32) -> u32
 pub fn top(totals: Totals, pending: &[u32], w: u32, n: u32) -> NodeNo
     ensures { result ≡ node (get_or pending.now (spot totals w (n - 1)) 0) }
 {
-    NodeNo(fields::get(pending, spot(totals, w, one_less(n))))
+    NodeNo(fields::get(pending, spot(totals, w, one_less(n)), 0))
 }
 
 pub fn pending_left(n: u32, change: PendingChange) -> u32
@@ -67,7 +67,7 @@ pub fn add(found: &mut [i32], at: usize, change: FoundChange)
     match change {
         FoundChange::Keep => {}
         FoundChange::Add(k) => {
-            fields::put_key(found, at, fields::number_of(k));
+            fields::put(found, at, fields::number_of(k));
         }
     }
 }

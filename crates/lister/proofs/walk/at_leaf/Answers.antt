@@ -14,7 +14,7 @@ returns-then-leaves-eq0 c = rw c.if-leaves-eq0.true refl
 
 pub returns-then-k-eq0 : goal.returns-then-k-eq0
 unfolding standing
-returns-then-k-eq0 c = rw (leaf_finite _ _ _ _ _ c.if-leaves-eq0.false (rw c.rank_at-k.ensures at c.if-k-eq0.true), ← c.rank_at-k.ensures, ← c.number_of.ensures) (ap (stands (c.args.leaves - 1) (c.args.at + 1)) (rw (to_z-of_z w32 c.number_of.result (record { sfits = c.number_of.type_inv })) at c.put_key.ensures))
+returns-then-k-eq0 c = rw (leaf_finite _ _ _ _ _ c.if-leaves-eq0.false (rw c.rank_at-k.ensures at c.if-k-eq0.true), ← c.rank_at-k.ensures, ← c.number_of.ensures) (ap (stands (c.args.leaves - 1) (c.args.at + 1)) (rw (to_z-of_z w32 c.number_of.result (record { sfits = c.number_of.type_inv })) at c.put.ensures))
 
 pub returns : goal.returns
 unfolding standing

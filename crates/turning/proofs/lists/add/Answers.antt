@@ -11,4 +11,4 @@ returns-in-Keep c = rw c.in-Keep.is refl
 
 pub returns-in-Add : goal.returns-in-Add
 unfolding added
-returns-in-Add c = rw (c.in-Add.is, ← c.number_of.ensures) (rw (to_z-of_z w32 c.number_of.result (record { sfits = c.number_of.type_inv })) at c.put_key.ensures)
+returns-in-Add c = rw (c.in-Add.is, ← c.number_of.ensures) (rw (to_z-of_z w32 c.number_of.result (record { sfits = c.number_of.type_inv })) at c.put.ensures)
