@@ -51,7 +51,7 @@ def seen(text):
 def written(crate, name):
     """The places of a function's parameters that it may write."""
     texts = "".join(p.read_text() for p in (CRATES / crate / "src").glob("*.rt"))
-    (parameters,) = re.findall(rf"^pub fn {name}\(([^()]*)\)", texts, re.M)
+    (parameters,) = re.findall(rf"^pub fn {name}(?:<[^<>]*>)?\(([^()]*)\)", texts, re.M)
     given = [p for p in re.split(r",(?![^\[]*\])", parameters) if p.strip()]
     return {at for at, parameter in enumerate(given) if "&mut" in parameter}
 

@@ -8,12 +8,12 @@ use shapes::{Answer, Decision, Key, Kind, Locals, NodeNo, Place, Totals};
 use tables::ROOT;
 
 // With gp absent, or p the Root so that gp has no word, line 182 is crooked.
-#[tactic(auto, unfolding(steps::specs::Attempt::reaches182, laws::specs::Choice::pick))]
+#[tactic(auto, unfolding(steps::specs::Attempt::reaches182, tables::specs::Names::same_node, laws::specs::Choice::pick))]
 fn reaches182(v: Locals, gp: Option<NodeNo>) -> Decision
     ensures { result ≡ reaches182 v gp }
 {
     let _there = gp?;
-    if fields::same_node(v.p, ROOT) {
+    if v.p == ROOT {
         None
     } else {
         hand::go_to(v, Place::Sibling182)
@@ -34,7 +34,7 @@ fn validated(totals: Totals, nodes: &[u32], kind: Kind, k: Key, v: Locals) -> De
 }
 
 // p's word, then gp's if that agreed and p is not the Root.
-#[tactic(auto, unfolding(steps::specs::Attempt::word66, steps::specs::Hand::through, laws::specs::Choice::pick))]
+#[tactic(auto, unfolding(steps::specs::Attempt::word66, steps::specs::Hand::through, tables::specs::Names::same_node, laws::specs::Choice::pick))]
 pub fn word66(totals: Totals, nodes: &[u32], kind: Kind, k: Key, v: Locals) -> Decision
     ensures { result ≡ word66 totals nodes.now kind k v }
 {
@@ -42,7 +42,7 @@ pub fn word66(totals: Totals, nodes: &[u32], kind: Kind, k: Key, v: Locals) -> D
     if !fields::same_update(fields::update_at(nodes, p), v.pup) {
         return hand::retry();
     }
-    if fields::same_node(p, ROOT) {
+    if p == ROOT {
         validated(totals, nodes, kind, k, v)
     } else {
         hand::go_to(v, Place::Grand66)

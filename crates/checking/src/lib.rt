@@ -11,6 +11,7 @@ use rows::{dummy_ok, nodes_ok, records_ok, root_ok, used_ok};
 use shapes::Board;
 
 // 01, 'Sound means'. The rows are looked at only if the totals are in range, so that there are few.
+#[tactic(auto, unfolding(sound::specs::Sound::sound_of, laws::specs::Tests::all, laws::specs::Choice::pick))]
 pub fn is_sound(
     board: Board,
     nodes: &[u32],
@@ -21,10 +22,12 @@ pub fn is_sound(
     ensures { result ≡ sound_of (world board nodes.now records.now pending.now found.now) }
 {
     let t = board.totals;
-    sizes_ok(t.n, t.m, t.p) & lent_ok(t.n, t.m, t.p, nodes, records, pending, found) & used_ok(t)
+    sizes_ok(t.n, t.m, t.p)
+        && lent_ok(t.n, t.m, t.p, nodes, records, pending, found)
+        && used_ok(t)
         && root_ok(nodes)
-            & dummy_ok(records)
-            & nodes_ok(t, nodes)
-            & records_ok(t, nodes, records)
-            & workers_ok(board, records, pending)
+        && dummy_ok(records)
+        && nodes_ok(t, nodes)
+        && records_ok(t, nodes, records)
+        && workers_ok(board, records, pending)
 }

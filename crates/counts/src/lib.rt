@@ -5,20 +5,19 @@ ghost use Rattle.std.specs.Prelude.{◌≡◌, get_or, set};
 ghost use Rattle.tally.specs.Playing.{counted, started_counts};
 
 use shapes::Outcome;
+use words::{get, put};
 
 pub fn count_of(counts: [u64; 8], w: u32) -> u64
     ensures { result ≡ get_or counts w 0 }
 {
-    if w < 8 { counts[w as usize] } else { 0 }
+    get(&counts, w as usize, 0)
 }
 
 pub fn with_count(counts: [u64; 8], w: u32, count: u64) -> [u64; 8]
     ensures { result ≡ set counts w count }
 {
     let mut all = counts;
-    if w < 8 {
-        all[w as usize] = count;
-    }
+    put(&mut all, w as usize, count);
     all
 }
 

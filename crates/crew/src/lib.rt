@@ -20,36 +20,35 @@ use rows::{phase_ok, used_maybe, used_node, used_record, word_ok};
 use shapes::{Board, HelpStep, Kind, Locals, Operation, Place, Totals};
 
 // All numbers in hand, at whatever place.
+#[tactic(auto, unfolding(sound::specs::Sound::hand_ok, laws::specs::Tests::all, laws::specs::Choice::pick))]
 fn hand_ok(t: Totals, v: Locals) -> bool
     ensures { result ≡ hand_ok t v }
 {
     let gp = v.gp;
     phase_ok(t, v.seq)
-        & used_maybe(t, gp)
-        & used_node(t, v.p)
-        & used_node(t, v.l)
-        & word_ok(t, v.gpup)
-        & word_ok(t, v.pup)
-        & word_ok(t, v.lup)
-        & word_ok(t, v.sup)
-        & word_ok(t, v.up)
-        & used_node(t, v.sibling)
-        & used_node(t, v.made)
-        & used_record(t, v.info)
+        && used_maybe(t, gp)
+        && used_node(t, v.p)
+        && used_node(t, v.l)
+        && word_ok(t, v.gpup)
+        && word_ok(t, v.pup)
+        && word_ok(t, v.lup)
+        && word_ok(t, v.sup)
+        && word_ok(t, v.up)
+        && used_node(t, v.sibling)
+        && used_node(t, v.made)
+        && used_record(t, v.info)
 }
 
 // The place that HELP has reached in its record's list, from 1.
+#[tactic(auto, unfolding(laws::specs::Choice::pick))]
 fn help_within(rs: &[u32], v: Locals, s: HelpStep) -> bool
     ensures { result ≡ pick (in_list s) (between 1 v.i (count_at rs.now v.info)) true }
 {
-    if in_list(s) {
-        between(1, v.i, count_at(rs, v.info))
-    } else {
-        true
-    }
+    !in_list(s) || between(1, v.i, count_at(rs, v.info))
 }
 
 // A place in a list lies within that list: EXECUTE's k old words, a record's nodes, the n pending nodes.
+#[tactic(auto, unfolding(sound::specs::Sound::within_ok))]
 fn within_ok(rs: &[u32], k: u32, v: Locals, n: u32, q: Place) -> bool
     ensures { result ≡ within_ok rs.now k v n q }
 {
@@ -81,9 +80,10 @@ fn within_ok(rs: &[u32], k: u32, v: Locals, n: u32, q: Place) -> bool
 fn attempt_ok(rs: &[u32], v: Locals, n: u32, o: Kind, q: Place) -> bool
     ensures { result ≡ attempt_home o q && within_ok rs.now (listed o) v n q }
 {
-    attempt_home(o, q) & within_ok(rs, listed(o), v, n, q)
+    attempt_home(o, q) && within_ok(rs, listed(o), v, n, q)
 }
 
+#[tactic(auto, unfolding(sound::specs::Sound::condition_ok))]
 fn condition_ok(rs: &[u32], v: Locals, n: u32, c: Option<Operation>) -> bool
     ensures { result ≡ condition_ok rs.now v n c }
 {
@@ -93,32 +93,24 @@ fn condition_ok(rs: &[u32], v: Locals, n: u32, c: Option<Operation>) -> bool
             Operation::Insert(_, q) => attempt_ok(rs, v, n, Kind::Insert, q),
             Operation::Delete(_, q) => attempt_ok(rs, v, n, Kind::Delete, q),
             Operation::Find(_, q) => attempt_ok(rs, v, n, Kind::Find, q),
-            Operation::Scan(_, _, q) => scan_home(q) & within_ok(rs, 0, v, n, q),
+            Operation::Scan(_, _, q) => scan_home(q) && within_ok(rs, 0, v, n, q),
         },
     }
 }
 
+#[tactic(auto, unfolding(sound::specs::Sound::worker_ok, tables::specs::World::worker_at, laws::specs::Tests::all, laws::specs::Choice::pick))]
 fn worker_ok(board: Board, records: &[u32], pending: &[u32], w: u32) -> bool
     ensures { (ns : List ℕ) (fs : List ℤ) → result ≡ worker_ok (world board ns records.now pending.now fs) w }
 {
     let k = worker_of(board, w);
-    let hand = k.hand;
-    let operation = k.operation;
     lists_ok(board, pending, w)
-        & hand_ok(board.totals, hand)
-        & condition_ok(records, hand, k.pending, operation)
+        && hand_ok(board.totals, k.hand)
+        && condition_ok(records, k.hand, k.pending, k.operation)
 }
 
 // Every worker.
 pub fn workers_ok(board: Board, records: &[u32], pending: &[u32]) -> bool
     ensures { (ns : List ℕ) (fs : List ℤ) → result ≡ every board.totals.p (worker_ok (world board ns records.now pending.now fs)) }
 {
-    let mut w = board.totals.p;
-    while 0 < w {
-        w -= 1;
-        if !worker_ok(board, records, pending, w) {
-            return false;
-        }
-    }
-    true
+    (0..board.totals.p).all(|w| worker_ok(board, records, pending, w))
 }

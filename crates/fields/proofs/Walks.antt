@@ -1,6 +1,6 @@
--- How a walk along prev stops, goes on and ends.
+-- How a walk along prev stops, goes on and ends, after k of n steps.
 use Rattle.std.specs.Prelude.{Option, None, Some}
-use Prim.Native.Nat.{ℕ, zero, suc, ◌-◌, ◌<◌, ◌≤◌}
+use Prim.Native.Nat.{ℕ, zero, suc, ◌+◌, ◌-◌, ◌<◌, ◌≤◌}
 use native.Mathlib.Omega.{arith}
 use mathlib.Core.Path.{◌≡◌, refl}
 use mathlib.Core.List.{List}
@@ -12,22 +12,29 @@ use Rattle.tables.specs.Nodes.{phase_at, prev_at}
 use Rattle.tables.specs.Versions.{walk_back}
 
 module _ (ns : List ℕ) (seq : Phase) where
-  pub stops : (x : NodeNo) (k : ℕ) → 0 < k → (phase_at ns x).0 ≤ seq.0 → walk_back k ns seq (Some x) ≡ Some x
+  one : (x : NodeNo) (m k : ℕ) → m ≡ suc k → seq.0 < (phase_at ns x).0 → walk_back m ns seq (Some x) ≡ walk_back k ns seq (prev_at ns x)
   unfolding walk_back pick
-  stops x zero h p = absurd (omega arith)
-  stops x (suc k) h p = simp (le-leb _ _ p)
+  one x m k e p = rw e (simp (lt-leb _ _ p))
 
-  pub goes : (x : NodeNo) (k : ℕ) → 0 < k → seq.0 < (phase_at ns x).0 → walk_back k ns seq (Some x) ≡ walk_back (k - 1) ns seq (prev_at ns x)
+  here : (x : NodeNo) (m k : ℕ) → m ≡ suc k → (phase_at ns x).0 ≤ seq.0 → walk_back m ns seq (Some x) ≡ Some x
   unfolding walk_back pick
-  goes x zero h p = absurd (omega arith)
-  goes x (suc k) h p = let e : suc k - 1 ≡ k = omega arith in simp (lt-leb _ _ p, e)
+  here x m k e p = rw e (simp (le-leb _ _ p))
+
+  none : (m : Option NodeNo) (k : ℕ) → k ≡ 0 → walk_back k ns seq m ≡ None
+  unfolding walk_back
+  none m k e = rw e
 
   pub lost : (k : ℕ) → walk_back k ns seq None ≡ None
   unfolding walk_back
   lost zero = refl
   lost (suc k) = refl
 
-  pub over : (m : Option NodeNo) (k : ℕ) → k ≤ 0 → walk_back k ns seq m ≡ None
-  unfolding walk_back
-  over m zero h = refl
-  over m (suc k) h = absurd (omega arith)
+  module _ (x : NodeNo) (n k : ℕ) where
+    pub stops : k < n → (phase_at ns x).0 ≤ seq.0 → walk_back (n - k) ns seq (Some x) ≡ Some x
+    stops h p = here x (n - k) (n - (k + 1)) (omega arith) p
+
+    pub goes : k < n → seq.0 < (phase_at ns x).0 → walk_back (n - k) ns seq (Some x) ≡ walk_back (n - (k + 1)) ns seq (prev_at ns x)
+    goes h p = one x (n - k) (n - (k + 1)) (omega arith) p
+
+    pub over : n ≤ k → walk_back (n - k) ns seq (Some x) ≡ None
+    over h = none (Some x) (n - k) (omega arith)

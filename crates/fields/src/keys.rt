@@ -6,6 +6,7 @@ use shapes::Key;
 
 const MIDDLE: i64 = 2147483648;
 
+#[tactic(auto, using(crate::proofs::Signs::wide, crate::proofs::Signs::up, crate::proofs::Signs::up_fits, crate::proofs::Signs::up_wide))]
 pub fn key_of(k: i32) -> Key
     ensures { result ≡ key_of k }
 {
@@ -13,6 +14,7 @@ pub fn key_of(k: i32) -> Key
     Key((wide + MIDDLE) as u32)
 }
 
+#[tactic(auto, using(crate::proofs::Signs::wide, crate::proofs::Signs::down, crate::proofs::Signs::down_fits))]
 pub fn number_of(k: Key) -> i32
     ensures { result ≡ number_of k }
 {

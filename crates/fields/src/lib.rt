@@ -8,8 +8,8 @@ mod sizes; // sizes in range, tables long enough
 
 pub use keys::{key_of, number_of};
 pub use nodes::{
-    child_at, is_internal, key_at, key_value, kind_at, phase_at, prev_at, rank_at, same_node,
-    same_record, same_update, set_child, set_update, update_at,
+    child_at, is_internal, key_at, key_value, kind_at, phase_at, prev_at, rank_at, same_update,
+    set_child, set_update, update_at,
 };
 pub use records::{
     count_at, entry_at, fillable, helpable, in_progress, new_child_at, old_child_at, par_at,
@@ -17,5 +17,5 @@ pub use records::{
 };
 pub use sizes::{between, lent_ok, sizes_ok};
 pub use versions::{as_parent, read_child};
-pub use words::{get, new_node, new_record, put, put_key};
+pub use words::{get, new_node, new_record, put};
 pub use workers::{blank, idle};

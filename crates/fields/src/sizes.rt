@@ -9,28 +9,24 @@ use tables::{
     RECORD_WIDTH,
 };
 
+#[tactic(auto, unfolding(tables::specs::Fresh::between))]
 pub fn between(a: u32, x: u32, b: u32) -> bool
     ensures { result ≡ between a x b }
 {
-    a <= x && x <= b
+    (a..=b).contains(&x)
 }
 
+#[tactic(auto, unfolding(tables::specs::Fresh::sizes_ok, laws::specs::Tests::all, laws::specs::Choice::pick))]
 pub fn sizes_ok(n: u32, m: u32, p: u32) -> bool
     ensures { result ≡ sizes_ok n m p }
 {
-    if !between(LEAST_NODES, n, MOST_NODES) {
-        return false;
-    }
-    if !between(LEAST_RECORDS, m, MOST_RECORDS) {
-        return false;
-    }
-    if !between(LEAST_WORKERS, p, MOST_WORKERS) {
-        return false;
-    }
-    true
+    between(LEAST_NODES, n, MOST_NODES)
+        && between(LEAST_RECORDS, m, MOST_RECORDS)
+        && between(LEAST_WORKERS, p, MOST_WORKERS)
 }
 
 // The lent tables are long enough, whatever the board.
+#[tactic(auto, using(tables::specs::Places::row_fits), unfolding(tables::specs::Fresh::lent_ok, laws::specs::Tests::all, laws::specs::Choice::pick))]
 pub fn lent_ok(
     n: u32,
     m: u32,
@@ -43,17 +39,8 @@ pub fn lent_ok(
     ensures { (b : Board) → result ≡ lent_ok n m p (world b nodes.now records.now pending.now found.now) }
 {
     let places = p as usize * n as usize;
-    if nodes.len() < n as usize * NODE_WIDTH as usize {
-        return false;
-    }
-    if records.len() < m as usize * RECORD_WIDTH as usize {
-        return false;
-    }
-    if pending.len() < places {
-        return false;
-    }
-    if found.len() < places {
-        return false;
-    }
-    true
+    n as usize * NODE_WIDTH as usize <= nodes.len()
+        && m as usize * RECORD_WIDTH as usize <= records.len()
+        && places <= pending.len()
+        && places <= found.len()
 }

@@ -6,25 +6,22 @@ use nodes::{child_at, is_internal, phase_at, prev_at};
 use shapes::{NodeNo, Phase};
 
 // Lines 46 and 47: along prev to the first node of a phase no later than seq, in at most `used` steps.
+#[tactic(auto, using(crate::proofs::Walks::stops, crate::proofs::Walks::goes, crate::proofs::Walks::lost, crate::proofs::Walks::over))]
 fn walk_back(used: u32, ns: &[u32], seq: Phase, first: NodeNo) -> Option<NodeNo>
     ensures { result ≡ walk_back used ns.now seq (Some first) }
 {
     let mut x = first;
-    let mut steps = used;
-    while 0 < steps {
+    for _taken in 0..used {
         let phase = phase_at(ns, x);
         if phase.0 <= seq.0 {
             return Some(x);
         }
-        let Some(prev) = prev_at(ns, x) else {
-            return None;
-        };
-        x = prev;
-        steps -= 1;
+        x = prev_at(ns, x)?;
     }
     None
 }
 
+#[tactic(auto, unfolding(tables::specs::Versions::read_child))]
 pub fn read_child(used: u32, ns: &[u32], x: NodeNo, left: bool, seq: Phase) -> Option<NodeNo>
     ensures { result ≡ read_child used ns.now x left seq }
 {
@@ -33,17 +30,9 @@ pub fn read_child(used: u32, ns: &[u32], x: NodeNo, left: bool, seq: Phase) -> O
 }
 
 // A node that may be used as a parent: it is there, and internal.
+#[tactic(auto, unfolding(tables::specs::Versions::as_parent, laws::specs::Choice::pick))]
 pub fn as_parent(ns: &[u32], m: Option<NodeNo>) -> Option<NodeNo>
     ensures { result ≡ as_parent ns.now m }
 {
-    match m {
-        None => None,
-        Some(x) => {
-            if is_internal(ns, x) {
-                Some(x)
-            } else {
-                None
-            }
-        }
-    }
+    m.filter(|x| is_internal(ns, *x))
 }

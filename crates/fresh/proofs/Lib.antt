@@ -1,2 +1,1 @@
-mod Clears
 mod Asked

@@ -8,7 +8,7 @@ ghost use Rattle.std.specs.Prelude.{◌≡◌, ◌&&◌, ◌*◌, ◌≤◌, len
 ghost use Rattle.tables.specs.World.{world};
 ghost use Rattle.tables.specs.Fresh.{sizes_ok, lent_ok, cleared, fresh_nodes, fresh_records, fresh_of, left};
 
-use crate::clearing::{clear, clear_keys};
+use crate::clearing::clear;
 use crate::making::{fresh_board, fresh_nodes, fresh_records};
 use fields::{lent_ok, sizes_ok};
 use shapes::{Board, Refusal, Reply};
@@ -49,8 +49,8 @@ fn fresh_lists(
     let places = p as usize * n as usize;
     fresh_nodes(n, nodes);
     fresh_records(m, records);
-    clear(pending, places);
-    clear_keys(found, places);
+    clear(pending, places, 0);
+    clear(found, places, 0);
 }
 
 pub fn fresh(

@@ -3,8 +3,8 @@ ghost use Rattle.std.specs.Prelude.{◌≡◌, ◌*◌, ◌≤◌, length};
 ghost use Rattle.tables.specs.Names.{infinite};
 ghost use Rattle.tables.specs.Fresh.{fresh_nodes, fresh_records, fresh_board};
 
-use crate::clearing::{clear, clear_workers};
-use fields::{new_node, new_record, unfilled};
+use crate::clearing::clear;
+use fields::{idle, new_node, new_record, unfilled};
 use shapes::{Board, NodeNo, Phase, Rank, Totals};
 use tables::{
     ABORT, DUMMY, FRESH_NODES, FRESH_RECORDS, INTERNAL, LEAF, NODE_WIDTH, RECORD_WIDTH, ROOT,
@@ -17,12 +17,13 @@ fn infinite(class: u32) -> Rank
 }
 
 // The Root, and its leaves ∞1 and ∞2.
+#[tactic(auto, unfolding(tables::specs::Fresh::fresh_nodes))]
 pub fn fresh_nodes(n: u32, ns: &mut [u32])
     requires { n * 10 ≤ length ns.old }
     ensures { ns.new ≡ fresh_nodes n ns.old }
 {
     let none = NodeNo(0);
-    clear(ns, n as usize * NODE_WIDTH as usize);
+    clear(ns, n as usize * NODE_WIDTH as usize, 0);
     new_node(
         ns,
         ROOT,
@@ -56,14 +57,16 @@ pub fn fresh_nodes(n: u32, ns: &mut [u32])
 }
 
 // The dummy.
+#[tactic(auto, unfolding(tables::specs::Fresh::fresh_records))]
 pub fn fresh_records(m: u32, rs: &mut [u32])
     requires { m * 22 ≤ length rs.old }
     ensures { rs.new ≡ fresh_records m rs.old }
 {
-    clear(rs, m as usize * RECORD_WIDTH as usize);
+    clear(rs, m as usize * RECORD_WIDTH as usize, 0);
     new_record(rs, DUMMY, ABORT, unfilled());
 }
 
+#[tactic(auto, unfolding(tables::specs::Fresh::fresh_board))]
 pub fn fresh_board(n: u32, m: u32, p: u32, board: Board) -> Board
     requires { p ≤ 8 }
     ensures { result ≡ fresh_board n m p board }
@@ -76,7 +79,7 @@ pub fn fresh_board(n: u32, m: u32, p: u32, board: Board) -> Board
         records: FRESH_RECORDS,
         counter: 0,
     };
-    let before = board.workers;
-    let workers = clear_workers(before, p);
+    let mut workers = board.workers;
+    clear(&mut workers, p as usize, idle());
     Board { totals, workers }
 }

@@ -73,13 +73,13 @@ pub fn freeze_cas(nodes: &[u32], records: &[u32], r: RecordNo, i: u32) -> Effect
 }
 
 // Lines 119 and 120, then 115 or 122.
-#[tactic(auto, unfolding(steps::specs::Help::frozen119, laws::specs::Choice::pick))]
+#[tactic(auto, unfolding(steps::specs::Help::frozen119, tables::specs::Names::same_record, laws::specs::Choice::pick))]
 pub fn frozen119(nodes: &[u32], records: &[u32], r: RecordNo, i: u32) -> Option<HelpMove>
     ensures { result ≡ frozen119 nodes.now records.now r i }
 {
     let e = fields::entry_at(records, r, i);
     let word = fields::update_at(nodes, e.node);
-    if !fields::same_record(word.info, r) {
+    if word.info != r {
         return reads(HelpStep::State125);
     }
     if i < fields::count_at(records, r) {

@@ -8,13 +8,13 @@ use shapes::{Effect, HelpMove, HelpStep, NodeNo, RecordNo};
 use tables::TRY;
 
 // Lines 84 to 87: new's side of the parent, if old stands there.
-#[tactic(auto, unfolding(steps::specs::Help::cas_child, laws::specs::Choice::pick))]
+#[tactic(auto, unfolding(steps::specs::Help::cas_child, tables::specs::Names::same_node, laws::specs::Choice::pick))]
 fn cas_child(nodes: &[u32], parent: NodeNo, old: NodeNo, new: NodeNo) -> Effect
     ensures { result ≡ cas_child nodes.now parent old new }
 {
     let left = fields::key_at(nodes, new) < fields::key_at(nodes, parent);
     let child = fields::child_at(nodes, parent, left);
-    if fields::same_node(child, old) {
+    if child == old {
         Effect::Link(parent, left, new)
     } else {
         Effect::Nothing

@@ -2,40 +2,13 @@
 #![tactic(auto)]
 
 ghost use Rattle.std.specs.Prelude.{◌≡◌};
-ghost use Rattle.sound.specs.Homes.{is_insert, is_delete, is_update, listed, link_home, back_home, attempt_home, is_node, scan_home, in_list};
+ghost use Rattle.sound.specs.Homes.{listed, link_home, back_home, attempt_home, scan_home, in_list};
 
 use shapes::{Back, HelpStep, Kind, Link, Place};
 use tables::{DELETE_LISTS, INSERT_LISTS};
 
-fn is_insert(o: Kind) -> bool
-    ensures { result ≡ is_insert o }
-{
-    match o {
-        Kind::Insert => true,
-        Kind::Delete | Kind::Find => false,
-    }
-}
-
-fn is_delete(o: Kind) -> bool
-    ensures { result ≡ is_delete o }
-{
-    match o {
-        Kind::Delete => true,
-        Kind::Insert | Kind::Find => false,
-    }
-}
-
-// An insert or a delete.
-fn is_update(o: Kind) -> bool
-    ensures { result ≡ is_update o }
-{
-    match o {
-        Kind::Insert | Kind::Delete => true,
-        Kind::Find => false,
-    }
-}
-
 // How many nodes the operation's record lists (lines 164 and 190).
+#[tactic(auto, unfolding(sound::specs::Homes::listed))]
 pub fn listed(o: Kind) -> u32
     ensures { result ≡ listed o }
 {
@@ -46,36 +19,42 @@ pub fn listed(o: Kind) -> u32
     }
 }
 
+#[tactic(auto, unfolding(sound::specs::Homes::link_home, sound::specs::Homes::is_delete))]
 fn link_home(o: Kind, a: Link) -> bool
     ensures { result ≡ link_home o a }
 {
     match a {
         Link::Leaf64 | Link::Parent65 => true,
-        Link::Sibling183 | Link::Left187 | Link::Right188 => is_delete(o),
+        Link::Sibling183 | Link::Left187 | Link::Right188 => matches!(o, Kind::Delete),
     }
 }
 
+#[tactic(auto, unfolding(sound::specs::Homes::back_home, sound::specs::Homes::is_update))]
 fn back_home(o: Kind, b: Back) -> bool
     ensures { result ≡ back_home o b }
 {
     match b {
-        Back::Own => is_update(o),
+        Back::Own => matches!(o, Kind::Insert | Kind::Delete),
         Back::Again => true,
         Back::Node => false,
     }
 }
 
 // The places of an insert, a delete or a find.
+#[tactic(auto, unfolding(sound::specs::Homes::attempt_home, sound::specs::Homes::is_insert, sound::specs::Homes::is_delete, sound::specs::Homes::is_update))]
 pub fn attempt_home(o: Kind, q: Place) -> bool
     ensures { result ≡ attempt_home o q }
 {
     match q {
         Place::Counter74 | Place::Search39 | Place::Word66 | Place::Grand66 => true,
         Place::Link(a, _) => link_home(o, a),
-        Place::Leaf164 => is_insert(o),
+        Place::Leaf164 => matches!(o, Kind::Insert),
         Place::Sibling182 | Place::CopyLeft | Place::CopyRight | Place::Word189 | Place::Leaf190 =>
-            is_delete(o),
-        Place::Frozen97 | Place::State98 | Place::Freeze103 => is_update(o),
+            matches!(o, Kind::Delete),
+        Place::Frozen97 | Place::State98 | Place::Freeze103 => matches!(
+            o,
+            Kind::Insert | Kind::Delete
+        ),
         Place::Help(_, b) => back_home(o, b),
         Place::Counter130
         | Place::Bump131
@@ -86,16 +65,8 @@ pub fn attempt_home(o: Kind, q: Place) -> bool
     }
 }
 
-fn is_node(b: Back) -> bool
-    ensures { result ≡ is_node b }
-{
-    match b {
-        Back::Node => true,
-        Back::Own | Back::Again => false,
-    }
-}
-
 // The places of a scan.
+#[tactic(auto, unfolding(sound::specs::Homes::scan_home, sound::specs::Homes::is_node))]
 pub fn scan_home(q: Place) -> bool
     ensures { result ≡ scan_home q }
 {
@@ -106,7 +77,7 @@ pub fn scan_home(q: Place) -> bool
         | Place::State140
         | Place::Child141
         | Place::Left144 => true,
-        Place::Help(_, b) => is_node(b),
+        Place::Help(_, b) => matches!(b, Back::Node),
         Place::Link(_, _) => false,
         Place::Counter74
         | Place::Search39
@@ -125,19 +96,9 @@ pub fn scan_home(q: Place) -> bool
 }
 
 // The steps of HELP at a place in the record's list.
+#[tactic(auto, unfolding(sound::specs::Homes::in_list))]
 pub fn in_list(s: HelpStep) -> bool
     ensures { result ≡ in_list s }
 {
-    match s {
-        HelpStep::Freeze117 | HelpStep::Frozen119 => true,
-        HelpStep::Counter111
-        | HelpStep::Abort112
-        | HelpStep::Try113
-        | HelpStep::State114
-        | HelpStep::Child123
-        | HelpStep::Commit124
-        | HelpStep::State125
-        | HelpStep::Abort126
-        | HelpStep::State127 => false,
-    }
+    matches!(s, HelpStep::Freeze117 | HelpStep::Frozen119)
 }

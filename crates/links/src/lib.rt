@@ -9,14 +9,14 @@ use shapes::{Decision, Key, Link, LinkMove, LinkStep, Locals, Place, Totals};
 use tables::ROOT;
 
 // A link that holds: lines 65 and 66, 184, 188 and 190.
-#[tactic(auto, unfolding(steps::specs::Attempt::held, laws::specs::Choice::pick))]
+#[tactic(auto, unfolding(steps::specs::Attempt::held, tables::specs::Names::same_node, laws::specs::Choice::pick))]
 fn held(totals: Totals, nodes: &[u32], v: Locals, a: Link) -> Decision
     ensures { result ≡ held totals nodes.now v a }
 {
     match a {
         Link::Leaf64 => {
             let next = hand::with_pup(v, v.up);
-            if fields::same_node(v.p, ROOT) {
+            if v.p == ROOT {
                 hand::go_to(next, Place::Word66)
             } else {
                 hand::go_to(next, Place::Link(Link::Parent65, LinkStep::Word52))

@@ -4,7 +4,7 @@ ghost use Rattle.shapes.specs.Numbers.{most_n};
 ghost use Rattle.listing.specs.Listing.{at_leaf, walk};
 ghost use Rattle.lister.specs.Lists.{standing, into};
 
-use fields::{is_internal, number_of, put_key, rank_at, read_child};
+use fields::{is_internal, number_of, put, rank_at, read_child};
 use shapes::{Key, NodeNo, Phase};
 
 // How many leaves may still be met, and the place of the next key.
@@ -23,7 +23,7 @@ fn at_leaf(nodes: &[u32], x: NodeNo, from: Reached, keys: &mut [i32]) -> Option<
     let leaves = from.leaves.checked_sub(1)?;
     let k = rank_at(nodes, x);
     if k.class == 0 {
-        put_key(keys, from.at, number_of(Key(k.word)));
+        put(keys, from.at, number_of(Key(k.word)));
         return Some(Reached {
             leaves,
             at: from.at + 1,

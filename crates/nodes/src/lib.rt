@@ -2,7 +2,7 @@
 #![tactic(auto)]
 
 ghost use Rattle.std.specs.Prelude.{◌≡◌};
-ghost use Rattle.tables.specs.Names.{value, same_node, same_record, same_update};
+ghost use Rattle.tables.specs.Names.{value, same_update};
 ghost use Rattle.tables.specs.Nodes.{kind_at, is_internal, rank_at, key_at, phase_at, prev_at, child_at, update_at, set_child, set_update};
 
 use shapes::{NodeNo, Phase, Rank, RecordNo, Update};
@@ -30,18 +30,21 @@ const TYPE: u32 = 8;
 
 const INFO: u32 = 9;
 
+#[tactic(auto, unfolding(tables::specs::Nodes::kind_at))]
 pub fn kind_at(ns: &[u32], x: NodeNo) -> u32
     ensures { result ≡ kind_at ns.now x }
 {
     word(ns, NODE_WIDTH, x.0, KIND)
 }
 
+#[tactic(auto, unfolding(tables::specs::Nodes::is_internal))]
 pub fn is_internal(ns: &[u32], x: NodeNo) -> bool
     ensures { result ≡ is_internal ns.now x }
 {
     kind_at(ns, x) == INTERNAL
 }
 
+#[tactic(auto, unfolding(tables::specs::Nodes::rank_at))]
 pub fn rank_at(ns: &[u32], x: NodeNo) -> Rank
     ensures { result ≡ rank_at ns.now x }
 {
@@ -51,18 +54,21 @@ pub fn rank_at(ns: &[u32], x: NodeNo) -> Rank
 }
 
 // The order of ranks as an order of numbers.
+#[tactic(auto, unfolding(tables::specs::Names::value))]
 pub fn key_value(k: Rank) -> u64
     ensures { result ≡ value k }
 {
     k.class as u64 * 4294967296 + k.word as u64
 }
 
+#[tactic(auto, unfolding(tables::specs::Nodes::key_at))]
 pub fn key_at(ns: &[u32], x: NodeNo) -> u64
     ensures { result ≡ key_at ns.now x }
 {
     key_value(rank_at(ns, x))
 }
 
+#[tactic(auto, unfolding(tables::specs::Nodes::phase_at))]
 pub fn phase_at(ns: &[u32], x: NodeNo) -> Phase
     ensures { result ≡ phase_at ns.now x }
 {
@@ -80,6 +86,7 @@ pub fn prev_at(ns: &[u32], x: NodeNo) -> Option<NodeNo>
     Some(NodeNo(word(ns, NODE_WIDTH, x.0, PREV)))
 }
 
+#[tactic(auto, unfolding(tables::specs::Nodes::child_at, tables::specs::Nodes::side))]
 pub fn child_at(ns: &[u32], x: NodeNo, left: bool) -> NodeNo
     ensures { result ≡ child_at ns.now x left }
 {
@@ -90,6 +97,7 @@ pub fn child_at(ns: &[u32], x: NodeNo, left: bool) -> NodeNo
     }
 }
 
+#[tactic(auto, unfolding(tables::specs::Nodes::update_at))]
 pub fn update_at(ns: &[u32], x: NodeNo) -> Update
     ensures { result ≡ update_at ns.now x }
 {
@@ -103,6 +111,7 @@ pub fn update_at(ns: &[u32], x: NodeNo) -> Update
 
 // ---- writing
 
+#[tactic(auto, unfolding(tables::specs::Nodes::set_child, tables::specs::Nodes::side))]
 pub fn set_child(ns: &mut [u32], x: NodeNo, left: bool, c: NodeNo)
     ensures { ns.new ≡ set_child ns.old x left c }
 {
@@ -113,6 +122,7 @@ pub fn set_child(ns: &mut [u32], x: NodeNo, left: bool, c: NodeNo)
     }
 }
 
+#[tactic(auto, unfolding(tables::specs::Nodes::set_update))]
 pub fn set_update(ns: &mut [u32], x: NodeNo, u: Update)
     ensures { ns.new ≡ set_update ns.old x u }
 {
@@ -121,26 +131,12 @@ pub fn set_update(ns: &mut [u32], x: NodeNo, u: Update)
     put_word(ns, NODE_WIDTH, x.0, INFO, info.0);
 }
 
-// ---- the same number, the same word
+// ---- the same word
 
-pub fn same_node(x: NodeNo, y: NodeNo) -> bool
-    ensures { result ≡ same_node x y }
-{
-    x.0 == y.0
-}
-
-pub fn same_record(r: RecordNo, q: RecordNo) -> bool
-    ensures { result ≡ same_record r q }
-{
-    r.0 == q.0
-}
-
-// The whole word: FLAG or MARK as well as the record.
-#[tactic(auto, unfolding(tables::specs::Names::same_update))]
+// Whether a CAS finds the word: FLAG or MARK as well as the record.
+#[tactic(auto, unfolding(tables::specs::Names::same_update, tables::specs::Names::same_record))]
 pub fn same_update(u: Update, v: Update) -> bool
     ensures { result ≡ same_update u v }
 {
-    let ours = u.mark;
-    let theirs = v.mark;
-    ours == theirs && same_record(u.info, v.info)
+    u == v
 }

@@ -1,6 +1,10 @@
 -- Every exported function over tables, total on any: each has one outcome. `Reads.Post` is its contract, as the check reads it off the code.
 use Rattle.std.specs.Prelude.{refl, []}
 use Rattle.std.proofs.Common.{sym, ◌∙◌}
+use Rattle.std.specs.declared.clone.Clone as Clone
+use denote.RattleType.{RattleType}
+use denote.Param.Laws.{Laws, IsCopy}
+use mir.Syntax.{Dict}
 use Rattle.laws.specs.Outcomes.{OneOutcome, one_outcome, OneAnswer, one_answer, one-answer-at}
 use Rattle.tables.specs.World.{tables}
 use Rattle.tally.specs.Whole.{lent}
@@ -16,16 +20,19 @@ use Rattle.rows.proofs as rows
 use Rattle.homes.proofs as homes
 use Rattle.crew.proofs as crew
 
--- `words`: a word, a row
+-- `words`: one place of a list, of whatever can be copied
+pub places-once : (T : RattleType) (laws : Laws T) (copy : IsCopy T) (clone : Clone.Ghosts T.Denot) (methods : Dict) →
+    OneAnswer (words.get.Reads.Post T laws copy clone methods) ×
+    OneOutcome (words.put.Reads.Post T laws copy clone methods) (λ r x. x.0.now)
+places-once T laws copy clone methods = (one_answer _, puts (λ x. x.0) _)
+
+-- a word, a row
 pub words-once :
-    OneAnswer words.get.Reads.Post ×
     OneOutcome words.new_node.Reads.Post (λ r x. x.0.now) ×
     OneOutcome words.new_record.Reads.Post (λ r x. x.0.now) ×
-    OneOutcome words.put.Reads.Post (λ r x. x.0.now) ×
-    OneOutcome words.put_key.Reads.Post (λ r x. x.0.now) ×
     OneOutcome words.put_word.Reads.Post (λ r x. x.0.now) ×
     OneAnswer words.word.Reads.Post
-words-once = (one_answer _, puts (λ x. x.0) _, puts (λ x. x.0) _, puts (λ x. x.0) _, puts (λ x. x.0) _, puts (λ x. x.0) _, one_answer _)
+words-once = (puts (λ x. x.0) _, puts (λ x. x.0) _, puts (λ x. x.0) _, one_answer _)
 
 -- `nodes`: a node's fields
 pub nodes-once :
@@ -37,13 +44,11 @@ pub nodes-once :
     OneAnswer nodes.phase_at.Reads.Post ×
     OneAnswer nodes.prev_at.Reads.Post ×
     OneAnswer nodes.rank_at.Reads.Post ×
-    OneAnswer nodes.same_node.Reads.Post ×
-    OneAnswer nodes.same_record.Reads.Post ×
     OneAnswer nodes.same_update.Reads.Post ×
     OneOutcome nodes.set_child.Reads.Post (λ r x. x.0.now) ×
     OneOutcome nodes.set_update.Reads.Post (λ r x. x.0.now) ×
     OneAnswer nodes.update_at.Reads.Post
-nodes-once = (one_answer _, one_answer _, one_answer _, one_answer _, one_answer _, one_answer _, one_answer _, one_answer _, one_answer _, one_answer _, one_answer _, puts (λ x. x.0) _, puts (λ x. x.0) _, one_answer _)
+nodes-once = (one_answer _, one_answer _, one_answer _, one_answer _, one_answer _, one_answer _, one_answer _, one_answer _, one_answer _, puts (λ x. x.0) _, puts (λ x. x.0) _, one_answer _)
 
 -- `records`: a record's fields
 pub records-once :

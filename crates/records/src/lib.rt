@@ -32,36 +32,42 @@ const ENTRY_INFO: usize = 4;
 
 const ENTRY_MARK: usize = 5;
 
+#[tactic(auto, unfolding(tables::specs::Records::count_at))]
 pub fn count_at(rs: &[u32], r: RecordNo) -> u32
     ensures { result ≡ count_at rs.now r }
 {
     word(rs, RECORD_WIDTH, r.0, COUNT)
 }
 
+#[tactic(auto, unfolding(tables::specs::Records::state_at))]
 pub fn state_at(rs: &[u32], r: RecordNo) -> u32
     ensures { result ≡ state_at rs.now r }
 {
     word(rs, RECORD_WIDTH, r.0, STATE)
 }
 
+#[tactic(auto, unfolding(tables::specs::Records::par_at))]
 pub fn par_at(rs: &[u32], r: RecordNo) -> NodeNo
     ensures { result ≡ par_at rs.now r }
 {
     NodeNo(word(rs, RECORD_WIDTH, r.0, PAR))
 }
 
+#[tactic(auto, unfolding(tables::specs::Records::old_child_at))]
 pub fn old_child_at(rs: &[u32], r: RecordNo) -> NodeNo
     ensures { result ≡ old_child_at rs.now r }
 {
     NodeNo(word(rs, RECORD_WIDTH, r.0, OLD_CHILD))
 }
 
+#[tactic(auto, unfolding(tables::specs::Records::new_child_at))]
 pub fn new_child_at(rs: &[u32], r: RecordNo) -> NodeNo
     ensures { result ≡ new_child_at rs.now r }
 {
     NodeNo(word(rs, RECORD_WIDTH, r.0, NEW_CHILD))
 }
 
+#[tactic(auto, unfolding(tables::specs::Records::seq_at))]
 pub fn seq_at(rs: &[u32], r: RecordNo) -> Phase
     ensures { result ≡ seq_at rs.now r }
 {
@@ -69,6 +75,7 @@ pub fn seq_at(rs: &[u32], r: RecordNo) -> Phase
 }
 
 // i may be any number, so the place is counted in 64 bits.
+#[tactic(auto, unfolding(tables::specs::Rows::word))]
 fn entry_word(rs: &[u32], r: RecordNo, i: u32, f: usize) -> u32
     requires { f ≤ 5 }
     ensures { result ≡ record_word rs.now r (i * 4 + f) }
@@ -76,9 +83,11 @@ fn entry_word(rs: &[u32], r: RecordNo, i: u32, f: usize) -> u32
     get(
         rs,
         r.0 as usize * RECORD_WIDTH as usize + (i as usize * ENTRY_WIDTH + f),
+        0,
     )
 }
 
+#[tactic(auto, unfolding(tables::specs::Records::entry_at))]
 pub fn entry_at(rs: &[u32], r: RecordNo, i: u32) -> Entry
     ensures { result ≡ entry_at rs.now r i }
 {
@@ -98,6 +107,7 @@ pub fn entry_at(rs: &[u32], r: RecordNo, i: u32) -> Entry
 
 // ---- writing
 
+#[tactic(auto, unfolding(tables::specs::Records::set_state))]
 pub fn set_state(rs: &mut [u32], r: RecordNo, s: u32)
     ensures { rs.new ≡ set_state rs.old r s }
 {
@@ -132,12 +142,14 @@ pub fn unfilled() -> Filling
 
 // ---- what may be done with a record
 
+#[tactic(auto, unfolding(tables::specs::Records::helpable))]
 pub fn helpable(rs: &[u32], r: RecordNo) -> bool
     ensures { result ≡ helpable rs.now r }
 {
     r.0 != 0 && count_at(rs, r) != 0
 }
 
+#[tactic(auto, unfolding(tables::specs::Records::fillable))]
 pub fn fillable(rs: &[u32], r: RecordNo) -> bool
     ensures { result ≡ fillable rs.now r }
 {
@@ -145,6 +157,7 @@ pub fn fillable(rs: &[u32], r: RecordNo) -> bool
 }
 
 // ⊥ or TRY.
+#[tactic(auto, unfolding(tables::specs::Records::in_progress))]
 pub fn in_progress(s: u32) -> bool
     ensures { result ≡ in_progress s }
 {

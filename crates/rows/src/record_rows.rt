@@ -23,7 +23,7 @@ const TO_MARK: u32 = 1;
 fn dummy_word_ok(rs: &[u32], f: u32) -> bool
     ensures { result ≡ eqb (record_word rs.now dummy f) (get_or (record_row aborted unfilled) f 0) }
 {
-    let word = get(rs, f as usize);
+    let word = get(rs, f as usize, 0);
     if f == STATE { word == ABORT } else { word == 0 }
 }
 
@@ -31,44 +31,33 @@ fn dummy_word_ok(rs: &[u32], f: u32) -> bool
 pub fn dummy_ok(rs: &[u32]) -> bool
     ensures { result ≡ dummy_ok rs.now }
 {
-    let mut f = RECORD_WIDTH;
-    while 0 < f {
-        f -= 1;
-        if !dummy_word_ok(rs, f) {
-            return false;
-        }
-    }
-    true
+    (0..RECORD_WIDTH).all(|f| dummy_word_ok(rs, f))
 }
 
+#[tactic(auto, unfolding(sound::specs::Sound::entry_ok, laws::specs::Tests::all, laws::specs::Choice::pick))]
 fn entry_ok(t: Totals, e: Entry) -> bool
     ensures { result ≡ entry_ok t e }
 {
-    used_node(t, e.node) & word_ok(t, e.old) & (e.mark <= TO_MARK)
+    used_node(t, e.node) && word_ok(t, e.old) && e.mark <= TO_MARK
 }
 
 // Unfilled, or 2 or 4 nodes are listed and the parent is internal.
+#[tactic(auto, unfolding(sound::specs::Sound::count_ok))]
 fn count_ok(ns: &[u32], par: NodeNo, c: u32) -> bool
     ensures { result ≡ count_ok ns.now par c }
 {
-    (c == 0) | (((c == INSERT_LISTS) | (c == DELETE_LISTS)) & is_internal(ns, par))
+    c == 0 || (c == INSERT_LISTS || c == DELETE_LISTS) && is_internal(ns, par)
 }
 
-// The nodes that record r lists, from the last.
+// The nodes that record r lists, from 1.
 fn entries_ok(t: Totals, rs: &[u32], r: RecordNo, count: u32) -> bool
     ensures { result ≡ every count (λ i. entry_ok t (entry_at rs.now r (suc i))) }
 {
-    let mut i = count;
-    while 0 < i {
-        if !entry_ok(t, entry_at(rs, r, i)) {
-            return false;
-        }
-        i -= 1;
-    }
-    true
+    (1..=count).all(|i| entry_ok(t, entry_at(rs, r, i)))
 }
 
 // The entries are looked at only if there are few.
+#[tactic(auto, unfolding(sound::specs::Sound::record_ok, laws::specs::Tests::all, laws::specs::Choice::pick))]
 fn record_ok(t: Totals, ns: &[u32], rs: &[u32], n: u32) -> bool
     ensures { result ≡ record_ok (tables t ns.now rs.now) n }
 {
@@ -76,24 +65,17 @@ fn record_ok(t: Totals, ns: &[u32], rs: &[u32], n: u32) -> bool
     let count = count_at(rs, r);
     let par = par_at(rs, r);
     count_ok(ns, par, count)
-        && (state_at(rs, r) <= ABORT)
-            & used_node(t, par)
-            & used_node(t, old_child_at(rs, r))
-            & used_node(t, new_child_at(rs, r))
-            & phase_ok(t, seq_at(rs, r))
-            & entries_ok(t, rs, r, count)
+        && state_at(rs, r) <= ABORT
+        && used_node(t, par)
+        && used_node(t, old_child_at(rs, r))
+        && used_node(t, new_child_at(rs, r))
+        && phase_ok(t, seq_at(rs, r))
+        && entries_ok(t, rs, r, count)
 }
 
 // Every used record but the dummy.
 pub fn records_ok(t: Totals, ns: &[u32], rs: &[u32]) -> bool
     ensures { result ≡ every (t.records - 1) (λ i. record_ok (tables t ns.now rs.now) (suc i)) }
 {
-    let mut n = t.records;
-    while 1 < n {
-        n -= 1;
-        if !record_ok(t, ns, rs, n) {
-            return false;
-        }
-    }
-    true
+    (1..t.records).all(|n| record_ok(t, ns, rs, n))
 }

@@ -24,7 +24,7 @@ fn state53(records: &[u32], up: Update) -> Option<LinkMove>
     }
 }
 
-#[tactic(auto, unfolding(steps::specs::Validate::child57, laws::specs::Choice::pick))]
+#[tactic(auto, unfolding(steps::specs::Validate::child57, tables::specs::Names::same_node, laws::specs::Choice::pick))]
 fn child57(
     nodes: &[u32],
     parent: Option<NodeNo>,
@@ -36,7 +36,7 @@ fn child57(
     let x = parent?;
     let c = child?;
     let newest = fields::child_at(nodes, x, left);
-    if fields::same_node(newest, c) {
+    if newest == c {
         Some(LinkMove::Holds)
     } else {
         Some(LinkMove::Fails)

@@ -2,10 +2,10 @@
 #![tactic(auto)]
 
 // Numbers that are never taken for one another: the report's Node pointer, Info pointer and seq.
-#[derive(Clone, Copy)]
+#[derive(Clone, Copy, PartialEq, Eq)]
 pub struct NodeNo(pub u32);
 
-#[derive(Clone, Copy)]
+#[derive(Clone, Copy, PartialEq, Eq)]
 pub struct RecordNo(pub u32);
 
 #[derive(Clone, Copy)]
@@ -23,7 +23,7 @@ pub struct Rank {
 }
 
 // An update word (lines 1 to 4): mark 0 is FLAG, 1 is MARK.
-#[derive(Clone, Copy)]
+#[derive(Clone, Copy, PartialEq, Eq)]
 pub struct Update {
     pub mark: u32,
     pub info: RecordNo,

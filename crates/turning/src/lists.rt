@@ -62,6 +62,6 @@ pub fn add(found: &mut [i32], at: usize, key: Option<Key>)
 {
     match key {
         None => {}
-        Some(k) => fields::put_key(found, at, fields::number_of(k)),
+        Some(k) => fields::put(found, at, fields::number_of(k)),
     }
 }

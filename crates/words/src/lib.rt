@@ -1,4 +1,4 @@
-// Total reads and writes of a flat table: a place past the end reads 0, a write there changes nothing. One word or key, a whole row.
+// Total reads and writes: past the end a place reads as the caller says, and a write changes nothing. One place, one word, a whole row.
 #![tactic(auto)]
 
 ghost use Rattle.std.specs.Prelude.{◌≡◌, length, get_or, set};
@@ -9,13 +9,13 @@ ghost use Rattle.tables.specs.Records.{new_record};
 use shapes::{Filling, NodeNo, Phase, Rank, RecordNo};
 use tables::{NODE_WIDTH, RECORD_WIDTH};
 
-pub fn get(t: &[u32], at: usize) -> u32
-    ensures { result ≡ get_or t.now at 0 }
+pub fn get<T: Copy>(t: &[T], at: usize, none: T) -> T
+    ensures { result ≡ get_or t.now at none }
 {
-    if at < t.len() { t[at] } else { 0 }
+    if at < t.len() { t[at] } else { none }
 }
 
-pub fn put(t: &mut [u32], at: usize, v: u32)
+pub fn put<T: Copy>(t: &mut [T], at: usize, v: T)
     ensures { t.new ≡ set t.old at v }
 {
     if at < t.len() {
@@ -23,21 +23,15 @@ pub fn put(t: &mut [u32], at: usize, v: u32)
     }
 }
 
-pub fn put_key(t: &mut [i32], at: usize, k: i32)
-    ensures { t.new ≡ set t.old at k }
-{
-    if at < t.len() {
-        t[at] = k;
-    }
-}
-
 // Field f of row n.
+#[tactic(auto, using(tables::specs::Places::row_fits), unfolding(tables::specs::Rows::word))]
 pub fn word(t: &[u32], width: u32, n: u32, f: u32) -> u32
     ensures { result ≡ word width t.now n f }
 {
-    get(t, n as usize * width as usize + f as usize)
+    get(t, n as usize * width as usize + f as usize, 0)
 }
 
+#[tactic(auto, using(tables::specs::Places::row_fits), unfolding(tables::specs::Rows::put_word))]
 pub fn put_word(t: &mut [u32], width: u32, n: u32, f: u32, v: u32)
     ensures { t.new ≡ put_word width t.old n f v }
 {
@@ -45,21 +39,21 @@ pub fn put_word(t: &mut [u32], width: u32, n: u32, f: u32, v: u32)
 }
 
 // The whole of row n.
+#[tactic(auto, using(tables::specs::Places::sets_more), unfolding(tables::specs::Rows::put_row))]
 fn put_row(t: &mut [u32], width: u32, n: u32, row: &[u32])
     requires { length row.now ≡ width }
     ensures { t.new ≡ put_row width t.old n row.now }
 {
-    let mut f = 0;
-    while f < width {
-        let v = get(row, f as usize);
-        put_word(t, width, n, f, v);
-        f += 1;
+    let start = n as usize * width as usize;
+    for (f, v) in row.iter().enumerate() {
+        put(t, start + f, *v);
     }
 }
 
 // ---- new rows
 
 // The update word of a new node is (FLAG, dummy).
+#[tactic(auto, unfolding(tables::specs::Nodes::new_node, tables::specs::Nodes::new_row))]
 pub fn new_node(
     ns: &mut [u32],
     x: NodeNo,
@@ -84,6 +78,7 @@ pub fn new_node(
     }
 }
 
+#[tactic(auto, unfolding(tables::specs::Records::new_record, tables::specs::Records::record_row, tables::specs::Records::entry_row))]
 pub fn new_record(rs: &mut [u32], r: RecordNo, state: u32, filling: Filling)
     ensures { rs.new ≡ new_record rs.old r state filling }
 {

@@ -1,12 +1,7 @@
--- `clear` is `cleared`: after i turns the first i places are cleared (`cleared_more`); the places left fall.
+-- `clear` is `cleared`: after so many turns, so many places are as the zero.
 use mathlib.Core.Path.{◌≡◌}
-use Prim.Native.Nat.{◌-◌, ◌≤◌}
-use lib.ListN.{length}
-use Rattle.tables.specs.Fresh.{cleared}
+use lib.ListN.{replicate, take}
 use Rattle.fresh.proofs.clearing.clear.Given as goal
 
-abbrev pub invariant-loop-i : goal.invariant-loop-i
-invariant-loop-i l = (l.i ≤ l.k) × (length l.t ≡ length l.initial.t) × (l.t ≡ cleared l.i 0 l.initial.t)
-
-abbrev pub decreases-loop-i : goal.decreases-loop-i
-decreases-loop-i l = l.k - l.i
+abbrev pub invariant-loop-place : goal.invariant-loop-place
+invariant-loop-place g l = take l.place-index l.place-items ≡ replicate l.place-index l.zero

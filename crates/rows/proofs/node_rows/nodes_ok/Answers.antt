@@ -1,19 +1,9 @@
-use mathlib.Core.Path.{ap}
-use mathlib.Core.Bool.{not}
-use mathlib.Core.Path.{refl}
+-- `nodes_ok` is `every` node: what `all` answers over their numbers.
 use borrow.Author.Rules.{rules}
-use Rattle.laws.specs.Every.{stops, goes_on, ends}
+use borrow.Author.Tests.{tests}
+use Rattle.laws.specs.Every.{every_below}
 use Rattle.sound.specs.Sound.{node_ok}
 use Rattle.rows.proofs.node_rows.nodes_ok.Goals as goal
 
-pub loop-n-init : goal.loop-n-init
-loop-n-init c = refl
-
-pub returns-then-not-node_ok : goal.returns-then-not-node_ok
-returns-then-not-node_ok c = stops (node_ok _ _) c.loop-n.n c.loop-n.invariant (search rules) c.node_ok.ensures (ap not c.if-not-node_ok.true)
-
-pub loop-n-preserved : goal.loop-n-preserved
-loop-n-preserved c = goes_on (node_ok _ _) c.loop-n.n c.loop-n.invariant (search rules) c.node_ok.ensures (ap not c.if-not-node_ok.false)
-
 pub returns : goal.returns
-returns c = ends (node_ok _ _) c.loop-n.n c.loop-n.invariant (search rules)
+returns c = every_below (node_ok c.args.t c.args.ns.now) c.all.ensures.ran (λ x b q k. search (rules, tests))

@@ -1,20 +1,14 @@
-use mathlib.Core.Path.{ap}
-use mathlib.Core.Bool.{not}
-use mathlib.Core.Path.{refl}
+-- `dummy_ok` is the definition of its name: what `all` answers over the places of a row.
 use borrow.Author.Rules.{rules}
-use Rattle.laws.specs.Every.{stops, goes_on, ends}
+use borrow.Author.Tests.{tests}
+use lib.Dec.{eqb}
+use lib.ListN.{get_or}
+use Rattle.laws.specs.Every.{every_below}
+use Rattle.tables.specs.Names.{dummy}
+use Rattle.tables.specs.Records.{record_word, record_row, aborted, unfilled}
 use Rattle.sound.specs.Sound.{dummy_ok}
 use Rattle.rows.proofs.record_rows.dummy_ok.Goals as goal
 
-pub loop-f-init : goal.loop-f-init
-unfolding dummy_ok
-loop-f-init c = refl
-
-pub returns-then-not-dummy_word_ok : goal.returns-then-not-dummy_word_ok
-returns-then-not-dummy_word_ok c = stops _ c.loop-f.f c.loop-f.invariant (search rules) c.dummy_word_ok.ensures (ap not c.if-not-dummy_word_ok.true)
-
-pub loop-f-preserved : goal.loop-f-preserved
-loop-f-preserved c = goes_on _ c.loop-f.f c.loop-f.invariant (search rules) c.dummy_word_ok.ensures (ap not c.if-not-dummy_word_ok.false)
-
 pub returns : goal.returns
-returns c = ends _ c.loop-f.f c.loop-f.invariant (search rules)
+unfolding dummy_ok
+returns c = every_below (λ f. eqb (record_word c.args.rs.now dummy f) (get_or (record_row aborted unfilled) f 0)) c.all.ensures.ran (λ x b q k. search (rules, tests))
