@@ -19,7 +19,7 @@ pub fn spot(totals: Totals, w: u32, i: u32) -> usize
 pub fn top(totals: Totals, pending: &[u32], w: u32, n: u32) -> NodeNo
     ensures { result ≡ node (get_or pending.now (spot totals w (n - 1)) 0) }
 {
-    NodeNo(fields::get(pending, spot(totals, w, n.saturating_sub(1))))
+    NodeNo(fields::get(pending, spot(totals, w, n.saturating_sub(1)), 0))
 }
 
 #[tactic(auto, unfolding(steps::specs::Turn::pending_left))]
