@@ -11,7 +11,7 @@ use rows::used_node;
 use shapes::{Board, NodeNo, Totals};
 
 // Pending node i of worker w, in the list that holds N for each worker.
-#[tactic(auto, using(tables::specs::Places::row_fits), unfolding(tables::specs::World::spot))]
+#[tactic(auto, unfolding(tables::specs::World::spot))]
 fn pending_node_ok(t: Totals, pending: &[u32], w: u32, i: u32) -> bool
     ensures { result ≡ used_node t (node (get_or pending.now (spot t w i) 0)) }
 {

@@ -7,10 +7,11 @@ use shapes::Totals;
 use tables::{LAST_PHASE, MOST_NODES, MOST_RECORDS};
 
 // Small enough that no sum below wraps.
+#[tactic(auto, unfolding(crate::specs::Sizes::within, laws::specs::Tests::all, laws::specs::Choice::pick))]
 pub fn within(t: Totals) -> bool
     ensures { result ≡ within t }
 {
-    (t.nodes <= MOST_NODES) & (t.records <= MOST_RECORDS) & (t.counter <= LAST_PHASE)
+    t.nodes <= MOST_NODES && t.records <= MOST_RECORDS && t.counter <= LAST_PHASE
 }
 
 #[tactic(auto, unfolding(steps::specs::Apply::bumped))]

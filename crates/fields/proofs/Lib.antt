@@ -1,2 +1,1 @@
 mod Walks
-mod Signs

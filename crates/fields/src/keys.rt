@@ -1,4 +1,5 @@
 // A key as a number that keeps the order of keys, and back.
+// Stays: an `impl From` would have to stand with Key in `shapes`, below the definitions promised here (tables:Names), and a call would read no plainer.
 ghost use Rattle.std.specs.Prelude.{◌≡◌};
 ghost use Rattle.tables.specs.Names.{key_of, number_of};
 
@@ -6,7 +7,6 @@ use shapes::Key;
 
 const MIDDLE: i64 = 2147483648;
 
-#[tactic(auto, using(crate::proofs::Signs::wide, crate::proofs::Signs::up, crate::proofs::Signs::up_fits, crate::proofs::Signs::up_wide))]
 pub fn key_of(k: i32) -> Key
     ensures { result ≡ key_of k }
 {
@@ -14,7 +14,6 @@ pub fn key_of(k: i32) -> Key
     Key((wide + MIDDLE) as u32)
 }
 
-#[tactic(auto, using(crate::proofs::Signs::wide, crate::proofs::Signs::down, crate::proofs::Signs::down_fits))]
 pub fn number_of(k: Key) -> i32
     ensures { result ≡ number_of k }
 {

@@ -26,7 +26,7 @@ pub fn sizes_ok(n: u32, m: u32, p: u32) -> bool
 }
 
 // The lent tables are long enough, whatever the board.
-#[tactic(auto, using(tables::specs::Places::row_fits), unfolding(tables::specs::Fresh::lent_ok, laws::specs::Tests::all, laws::specs::Choice::pick))]
+#[tactic(auto, unfolding(tables::specs::Fresh::lent_ok, laws::specs::Tests::all, laws::specs::Choice::pick))]
 pub fn lent_ok(
     n: u32,
     m: u32,

@@ -1,5 +1,5 @@
--- How code comes to many tests: `every` number of a range, and the tests of `all` joined from left to right.
-use Rattle.std.specs.Prelude.{◌≡◌, refl, List, [], ◌∷◌, Bool, true, false, ◌&&◌, ℕ, zero, suc, ◌+◌, ◌-◌, ◌<◌}
+-- How code comes to many tests: what `all` answers over a range is `every` of its numbers.
+use Rattle.std.specs.Prelude.{◌≡◌, refl, List, Bool, true, false, ℕ, zero, suc, ◌+◌, ◌-◌, ◌<◌}
 use denote.Param.Members.{Mut}
 use Rattle.std.specs.Fn.{Called}
 use Rattle.std.specs.Iterator.{YieldsThen, AlwaysYields}
@@ -14,8 +14,7 @@ use Rattle.std.proofs.iter.Yields.{nat_range_steps}
 use native.Mathlib.Nat.{add-zero, sub-zero}
 use Rattle.std.proofs.lemmas.Iterator.{YieldsList, YieldsList-from_range}
 use Rattle.std.proofs.lemmas.Iterator.Search.{all_from_yields_List}
-use Rattle.laws.specs.Choice.{pick}
-use Rattle.laws.specs.Tests.{Says, says_and, says_as, says_itself, says-every, all, every}
+use Rattle.laws.specs.Tests.{Says, says_and, says_as, says_itself, says-every, every}
 
 -- ---- `all` over a range: `every` says what it says
 
@@ -82,16 +81,3 @@ module _ (f : ℕ → Bool) {C : Type 0} {m : Mut C (ℕ × Unit {0}) Bool} {c :
   -- over `1..=n`
   pub every_up_to : {n : ℕ} {s u : RangeInclusive ℕ} → RunsAll up_to_steps m s u c r → range_inclusive_start s ≡ 1 → range_inclusive_end s ≡ n → range_inclusive_exhausted s ≡ false → Computes m c f → r ≡ every n (λ i. f (suc i))
   every_up_to {n} {s} {u} ran p q e computes = simp add-one at (all_from_yields_List f u c r ran (up_to_yields n p q e) computes ∙ every_range f 1 n)
-
--- ---- tests joined from left to right, as code joins them by `&`
-
-unfoldable pub joined : Bool → List Bool → Bool
-joined a [] = a
-joined a (b ∷ bs) = joined (a && b) bs
-
-pub all-joined : (a : Bool) (bs : List Bool) → all (a ∷ bs) ≡ joined a bs
-unfolding all joined pick
-all-joined true [] = refl
-all-joined false [] = refl
-all-joined true (b ∷ bs) = all-joined b bs
-all-joined false (b ∷ bs) = all-joined false bs

@@ -12,7 +12,7 @@ use tables::{NODE_WIDTH, RECORD_WIDTH};
 pub fn get<T: Copy>(t: &[T], at: usize, none: T) -> T
     ensures { result ≡ get_or t.now at none }
 {
-    if at < t.len() { t[at] } else { none }
+    t.get(at).copied().unwrap_or(none)
 }
 
 pub fn put<T: Copy>(t: &mut [T], at: usize, v: T)
@@ -24,14 +24,14 @@ pub fn put<T: Copy>(t: &mut [T], at: usize, v: T)
 }
 
 // Field f of row n.
-#[tactic(auto, using(tables::specs::Places::row_fits), unfolding(tables::specs::Rows::word))]
+#[tactic(auto, unfolding(tables::specs::Rows::word))]
 pub fn word(t: &[u32], width: u32, n: u32, f: u32) -> u32
     ensures { result ≡ word width t.now n f }
 {
     get(t, n as usize * width as usize + f as usize, 0)
 }
 
-#[tactic(auto, using(tables::specs::Places::row_fits), unfolding(tables::specs::Rows::put_word))]
+#[tactic(auto, unfolding(tables::specs::Rows::put_word))]
 pub fn put_word(t: &mut [u32], width: u32, n: u32, f: u32, v: u32)
     ensures { t.new ≡ put_word width t.old n f v }
 {
