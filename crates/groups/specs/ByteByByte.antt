@@ -98,12 +98,9 @@ reads_inside width (suc k) (byte ∷ s) e = each_reading (Inside width (suc k) (
     record { fits = fits; some = omega arith; few = omega arith; there = omega arith })
     e
 
-pub reads_few : (width k : ℕ) (s : List ℕ) (n taken : ℕ) → read_up_to width k s ≡ Ok (n, taken) → taken ≤ k
-reads_few width k s n taken e = (reads_inside width k s e).few
-
 pub reading_inside : (width : ℕ) (s : List ℕ) {n taken : ℕ} → reading width s ≡ Ok (n, taken) → Inside width (most_groups width) s n taken
 unfolding reading
 reading_inside width s e = reads_inside width (most_groups width) s e
 
 -- what a reading of groups is proved by
-pub ruleset reads = (holds, too_large, none_left, front_none, front_last, front_on, joins_none, joins, reads_few)
+pub ruleset reads = (holds, too_large, none_left, front_none, front_last, front_on, joins_none, joins)

@@ -46,7 +46,7 @@ pub record Listed : Type 0 where
   -- schedules
   pub read_opening : OneAnswer reader.read_opening.Reads.Post
   pub read_command : OneAnswer reader.read_command.Reads.Post
-  pub write_opening : OneOutcome writer.write_opening.Reads.Post (λ r x. with r x.1.1.1.0)
+  pub write_opening : OneOutcome writer.write_opening.Reads.Post (λ r x. with r x.1.0)
   pub write_command : OneOutcome writer.write_command.Reads.Post (λ r x. with r x.1.0)
   -- lines
   pub spell : OneOutcome spelling.spell.Reads.Post (λ r x. with r x.1.1.1.0)

@@ -8,7 +8,7 @@ use Rattle.tables.specs.Fresh.{between, sizes_ok}
 use Rattle.schedule.specs.Answers.{opening}
 use Rattle.schedule.specs.Numbers.{refusal_number, writing_number, opening_number, command_number}
 use Rattle.schedule.specs.Format.{spelled_all, numbers_of, command_bytes, opening_bytes, accepted, Schedule, all_bytes, schedule_bytes}
-use Rattle.schedule.specs.Reading.{ahead, followed, numbers_at, sized, opening_at, command_of, built, numbers_in, named, command_at, before, handed_on, commands_in, reads, faulty, with_sizes, opened, schedule_at}
+use Rattle.schedule.specs.Reading.{ahead, followed, numbers_at, sized, opening_at, command_of, built, numbers_in, named, command_at, before, handed_on, commands_in, with_sizes, opened, schedule_at}
 use Rattle.schedule.specs.Writing.{left, entered, write_opening, write_command}
 use Rattle.schedule.specs.Openings.{not_too_long, too_long}
 use Rattle.schedule.specs.declared.Command.TheVariants.{Insert, Delete, Find, Scan, Turns}
@@ -23,7 +23,7 @@ abbrev pub evening_schedule : Schedule
 evening_schedule = record { n = 16; m = 4; p = 2; commands = Insert 0 (pos 5) ∷ Turns 0 18 ∷ Scan 1 (pos 0) (pos 9) ∷ Turns 1 8 ∷ [] }
 
 pub record Evening : Type 0 where
-  pub read : schedule_at evening ≡ reads evening_schedule
+  pub read : schedule_at evening ≡ Some evening_schedule
   pub written : schedule_bytes evening_schedule ≡ evening
 
 -- each command, with what follows it left alone
@@ -51,7 +51,7 @@ pub record Faults : Type 0 where
   pub nodes_1024 : opening_at (0x80 ∷ 0x08 ∷ 0x04 ∷ 0x02 ∷ []) ≡ Some (opening 1024 4 2, 4)
   pub no_workers : opening_at (0x10 ∷ 0x04 ∷ 0x00 ∷ []) ≡ None
   pub two_sizes : opening_at (0x10 ∷ 0x04 ∷ []) ≡ None
-  pub late_fault : schedule_at (0x10 ∷ 0x04 ∷ 0x02 ∷ 0x05 ∷ 0x00 ∷ 0x01 ∷ 0x06 ∷ []) ≡ faulty
+  pub late_fault : schedule_at (0x10 ∷ 0x04 ∷ 0x02 ∷ 0x05 ∷ 0x00 ∷ 0x01 ∷ 0x06 ∷ []) ≡ None
   pub command_8 : command_number None ≡ 8
   pub opening_8 : opening_number None ≡ 8
 

@@ -70,34 +70,33 @@ command_at s = named (read_of s) s
 
 -- ---- a whole schedule
 
-pub data Listed : Type 0 where
-  listed : List Command → Listed
-  broken : Listed
+-- the commands, or a fault
+abbrev pub Listed : Type 0
+Listed = Option (List Command)
 
 unfoldable pub before : Command → Listed → Listed
-before c (listed cs) = listed (c ∷ cs)
-before c broken = broken
+before c (Some cs) = Some (c ∷ cs)
+before c None = None
 
 unfoldable pub handed_on : CommandReading → (ℕ → Listed) → Listed
 handed_on (Some (c, end)) rest = before c (rest end)
-handed_on None rest = broken
+handed_on None rest = None
 
 -- "the rest of the file after each being handed on until none is left"; a command has bytes, so there are no more than k in k bytes
 unfoldable pub commands_in : ℕ → List ℕ → Listed
-commands_in zero s = pick (eqb (length s) 0) (listed []) broken
-commands_in (suc k) s = let more = handed_on (command_at s) (λ end. commands_in k (drop end s)) in pick (eqb (length s) 0) (listed []) more
+commands_in zero s = pick (eqb (length s) 0) (Some []) None
+commands_in (suc k) s = let more = handed_on (command_at s) (λ end. commands_in k (drop end s)) in pick (eqb (length s) 0) (Some []) more
 
-pub data ScheduleReading : Type 0 where
-  reads : Schedule → ScheduleReading
-  faulty : ScheduleReading
+abbrev pub ScheduleReading : Type 0
+ScheduleReading = Option Schedule
 
 unfoldable pub with_sizes : ℕ → ℕ → ℕ → Listed → ScheduleReading
-with_sizes n m p (listed cs) = reads (record { n = n; m = m; p = p; commands = cs })
-with_sizes n m p broken = faulty
+with_sizes n m p (Some cs) = Some (record { n = n; m = m; p = p; commands = cs })
+with_sizes n m p None = None
 
 unfoldable pub opened : OpeningReading → List ℕ → ScheduleReading
 opened (Some (o, end)) s = with_sizes o.n o.m o.p (commands_in (length s) (drop end s))
-opened None s = faulty
+opened None s = None
 
 unfoldable pub schedule_at : List ℕ → ScheduleReading
 schedule_at s = opened (opening_at s) s

@@ -5,7 +5,7 @@
 pub const MOST_BYTES: usize = 65_536;
 
 // The number that a command starts with.
-// Stays: no plainer as an enum, since its `TryFrom` would list the same five numbers once more, and a reader or a writer names each once.
+// Stays: no plainer as an enum, whose `TryFrom` and `as u32` would list these five numbers over again.
 pub const INSERT: u32 = 1;
 
 pub const DELETE: u32 = 2;

@@ -9,7 +9,7 @@ ghost use Rattle.schedule.specs.Writing.{left, entered, write_opening, write_com
 
 use fields::sizes_ok;
 use groups::code;
-use schedule::{Command, DELETE, FIND, INSERT, MOST_BYTES, Refusal, SCAN, TURNS};
+use schedule::{Command, DELETE, FIND, INSERT, MOST_BYTES, Opening, Refusal, SCAN, TURNS};
 
 // How many bytes the numbers of an opening or a command take.
 #[tactic(auto, using(crate::proofs::Numbers::lengths))]
@@ -52,9 +52,10 @@ fn enter(numbers: &[u32], buffer: &mut [u8], at: usize) -> Result<usize, Refusal
 
 // Writes N, M, P, and says where they end.
 #[tactic(auto, using(crate::proofs::Numbers::by_sizes))]
-pub fn write_opening(n: u32, m: u32, p: u32, buffer: &mut [u8], at: usize) -> Result<usize, Refusal>
-    ensures { left result buffer.new ≡ write_opening n m p buffer.old at }
+pub fn write_opening(opening: Opening, buffer: &mut [u8], at: usize) -> Result<usize, Refusal>
+    ensures { left result buffer.new ≡ write_opening opening.n opening.m opening.p buffer.old at }
 {
+    let Opening { n, m, p } = opening;
     if !sizes_ok(n, m, p) {
         return Err(Refusal::File);
     }
