@@ -1,5 +1,5 @@
 -- What the table's bytes stand for.
-use Rattle.std.specs.Prelude.{List, ◌++◌, ℕ, ◌+◌, ◌*◌, ◌≡◌, ◌≤◌, ltb, ℤ, pos, ◌-ℤ◌, get_or, length, take, drop}
+use Rattle.std.specs.Prelude.{List, ◌++◌, ℕ, ◌+◌, ◌*◌, ltb, ℤ, pos, ◌-ℤ◌, get_or, take, drop}
 use Rattle.laws.specs.Choice.{pick}
 use Rattle.groups.specs.Format.{Left, left, write_of}
 
@@ -18,7 +18,3 @@ twos_complement word = pick (ltb word 2147483648) (pos word) (pos word -ℤ pos 
 -- a number written as if the buffer had only so much room: what stands behind that stays
 unfoldable pub write_in_front : ℕ → List ℕ → ℕ → ℕ → Left
 write_in_front n buffer at room = let front = write_of n (take room buffer) at in left front.answer (front.buffer ++ drop room buffer)
-
--- so many bytes can be taken from the front of a buffer, and are so many
-abbrev pub IsPrefixLen : ℕ → List ℕ → Type 0
-IsPrefixLen n bytes = (n ≤ length bytes) × (n ≡ length (take n bytes))

@@ -1,7 +1,7 @@
 // Numbers written into a buffer, to be shown.
-ghost use Rattle.std.specs.Prelude.{◌≡◌, ◌≤◌, length, take};
+ghost use Rattle.std.specs.Prelude.{◌≡◌, ◌≤◌, length};
 ghost use Rattle.groups.specs.Format.{groups_of, code_of, left};
-ghost use Rattle.leaves.specs.Table.{IsPrefixLen, write_in_front};
+ghost use Rattle.leaves.specs.Table.{write_in_front};
 
 use groups::TooShort;
 
@@ -11,21 +11,21 @@ pub const BUFFER_SIZE: usize = 8;
 // What a buffer holds before it is written, so that bytes left alone show.
 pub const UNWRITTEN: u8 = 0xee;
 
-// Puts the groups of a number at the start of the buffer, and answers how many there are.
-pub fn spell(n: u32, buffer: &mut [u8; BUFFER_SIZE]) -> usize
-    ensures prefix_len { IsPrefixLen result buffer.new }
-    ensures buffer_after { take result buffer.new ≡ groups_of n }
+// A number's groups, put at the start of the buffer.
+#[tactic(auto, using(groups::specs::Spelling::one_to_five))]
+pub fn spell(n: u32, buffer: &mut [u8; BUFFER_SIZE]) -> &[u8]
+    ensures { result.now ≡ groups_of n }
 {
     let _ = pack::write(n, buffer, 0);
-    groups::length(n)
+    &buffer[..groups::length(n)]
 }
 
-pub fn spell_signed(n: i32, buffer: &mut [u8; BUFFER_SIZE]) -> usize
-    ensures prefix_len { IsPrefixLen result buffer.new }
-    ensures buffer_after { take result buffer.new ≡ groups_of (code_of n) }
+#[tactic(auto, using(groups::specs::Spelling::one_to_five))]
+pub fn spell_signed(n: i32, buffer: &mut [u8; BUFFER_SIZE]) -> &[u8]
+    ensures { result.now ≡ groups_of (code_of n) }
 {
     let _ = pack::write_signed(n, buffer, 0);
-    groups::length(groups::code(n))
+    &buffer[..groups::length(groups::code(n))]
 }
 
 // Writes a number as if the buffer had only so much room: what stands behind that stays.

@@ -21,14 +21,12 @@ mod buffers; // numbers written to be shown
 mod telling; // the words of a line
 mod rows; // a line to each kind of row
 
-ghost use Rattle.std.specs.Prelude.{◌≡◌, length};
-
-use crate::numbers::{count_of, signed_word, word_at};
+use crate::numbers::{signed_word, word_at};
 use crate::rows::{
     show_key, show_lap, show_number, show_pad, show_reading, show_signed, show_signed_reading,
     show_unknown, show_writing,
 };
-use crate::telling::{say, say_count};
+use crate::telling::say;
 use input::{read_all, room};
 
 const ROW: usize = 10;
@@ -41,26 +39,21 @@ const PAYLOAD: usize = 2;
 
 const SECOND: usize = 6;
 
-const PAYLOAD_SIZE: usize = 8;
-
 // A kind that is not known, or a count that is too large, is shown as `?` and the kind's number.
-fn show_row(rt: &impl Print, row: &[u8])
-    requires { length row.now ≡ 10 }
-{
+fn show_row(rt: &impl Print, row: &[u8; ROW]) {
     let kind = row[0];
-    let count = count_of(row[1]);
-    if PAYLOAD_SIZE < count {
+    let count = row[1] as usize;
+    let Some(bytes) = row[PAYLOAD..].get(..count) else {
         show_unknown(rt, kind);
         return;
-    }
-    let end = PAYLOAD + count;
+    };
     let first = word_at(row, PAYLOAD);
     match kind {
         b'n' => show_number(rt, first),
         b's' => show_signed(rt, signed_word(first)),
-        b'r' => show_reading(rt, &row[PAYLOAD..end]),
-        b'g' => show_signed_reading(rt, &row[PAYLOAD..end]),
-        b'w' => show_writing(rt, first, count_of(row[SECOND]), count),
+        b'r' => show_reading(rt, bytes),
+        b'g' => show_signed_reading(rt, bytes),
+        b'w' => show_writing(rt, first, row[SECOND] as usize, count),
         b'l' => show_lap(rt, signed_word(first), word_at(row, SECOND)),
         b'k' => show_key(rt, signed_word(first)),
         b'p' => show_pad(rt, signed_word(first)),
@@ -68,36 +61,20 @@ fn show_row(rt: &impl Print, row: &[u8])
     }
 }
 
-fn show_line(rt: &impl Print, row: &[u8])
-    requires { length row.now ≡ 10 }
-{
-    show_row(rt, row);
-    say(rt, b"\n");
-}
-
-// How many rows there were, and how many bytes behind them that make no row.
-fn show_end(rt: &impl Print, rows: usize, over: usize) {
-    say(rt, b"end ");
-    say_count(rt, rows);
-    say(rt, b" over ");
-    say_count(rt, over);
-    say(rt, b"\n");
-}
-
+// How many rows there were stands last, and how many bytes behind them make no row.
 fn show_table(rt: &impl Print, table: &[u8]) {
-    let rows = table.len() / ROW;
-    for shown in 0..rows {
-        let start = shown * ROW;
-        let end = start + ROW;
-        show_line(rt, &table[start..end]);
+    let (rows, over) = table.as_chunks::<ROW>();
+    for row in rows {
+        show_row(rt, row);
+        say(rt, "\n");
     }
-    show_end(rt, rows, table.len() % ROW);
+    let _ = println!(rt; "end {} over {}", rows.len(), over.len());
 }
 
 // More bytes than any table has: there may be still more.
 fn show_input(rt: &impl Print, input: &[u8]) {
     if MOST < input.len() {
-        say(rt, b"bad input: longer than 65536 bytes\n");
+        say(rt, "bad input: longer than 65536 bytes\n");
         return;
     }
     show_table(rt, input);
@@ -107,6 +84,6 @@ fn main(rt: HostRuntime) {
     let mut table = room();
     match read_all(&mut rt.stdin(), &mut table) {
         Ok(size) => show_input(&rt, &table[..size]),
-        Err(_) => say(&rt, b"bad input: cannot be read\n"),
+        Err(_) => say(&rt, "bad input: cannot be read\n"),
     }
 }

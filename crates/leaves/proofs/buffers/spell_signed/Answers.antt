@@ -6,12 +6,7 @@ use Rattle.groups.specs.Spelling.{one_to_five}
 use Rattle.leaves.proofs.InFront.{in_front}
 use Rattle.leaves.proofs.buffers.spell_signed.Goals as goal
 
-pub returns-clause-prefix_len : goal.returns-clause-prefix_len
-returns-clause-prefix_len c =
+pub returns : goal.returns
+returns c =
     let sent = to_z-of_z w32 c.args.n c.ranges.n in
-    rw (c.length.ensures, c.code.ensures, sent) (in_front _ _ _ _ (rw sent at c.write_signed.ensures) (omega (arith, (one_to_five (code_of c.args.n)).1))).0
-
-pub returns-clause-buffer_after : goal.returns-clause-buffer_after
-returns-clause-buffer_after c =
-    let sent = to_z-of_z w32 c.args.n c.ranges.n in
-    rw (c.length.ensures, c.code.ensures, sent) (in_front _ _ _ _ (rw sent at c.write_signed.ensures) (omega (arith, (one_to_five (code_of c.args.n)).1))).1
+    rw (c.length.ensures, c.code.ensures, sent) (in_front _ _ _ _ (rw sent at c.write_signed.ensures) (omega (arith, (one_to_five (code_of c.args.n)).1)))
