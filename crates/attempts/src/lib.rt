@@ -4,7 +4,8 @@
 ghost use Rattle.std.specs.Prelude.{◌≡◌};
 ghost use Rattle.steps.specs.Attempt.{reaches182, validated, word66, grand66, word189, leaf_word};
 
-use shapes::{Answer, Decision, Key, Kind, Locals, NodeNo, Place, Totals};
+use hand::Shared;
+use shapes::{Answer, Decision, Key, Kind, Locals, NodeNo, Place};
 use tables::ROOT;
 
 // With gp absent, or p the Root so that gp has no word, line 182 is crooked.
@@ -21,12 +22,12 @@ fn reaches182(v: Locals, gp: Option<NodeNo>) -> Decision
 }
 
 #[tactic(auto, unfolding(steps::specs::Attempt::validated, laws::specs::Choice::pick))]
-fn validated(totals: Totals, nodes: &[u32], kind: Kind, k: Key, v: Locals) -> Decision
-    ensures { result ≡ validated totals nodes.now kind k v }
+fn validated(t: Shared<'_>, kind: Kind, k: Key, v: Locals) -> Decision
+    ensures { result ≡ validated t.entry.totals t.entry.nodes.now kind k v }
 {
-    let present = fields::key_at(nodes, v.l) == k.0 as u64;
+    let present = fields::key_at(t.nodes, v.l) == k.0 as u64;
     match (kind, present) {
-        (Kind::Insert, false) => taking::take_three(totals, k, v),
+        (Kind::Insert, false) => taking::take_three(t.totals, k, v),
         (Kind::Delete, true) => reaches182(v, v.gp),
         (Kind::Find, true) => hand::say(Answer::Yes),
         (Kind::Insert, true) | (Kind::Delete | Kind::Find, false) => hand::say(Answer::No),
@@ -35,27 +36,27 @@ fn validated(totals: Totals, nodes: &[u32], kind: Kind, k: Key, v: Locals) -> De
 
 // p's word, then gp's if that agreed and p is not the Root.
 #[tactic(auto, unfolding(steps::specs::Attempt::word66, steps::specs::Hand::through, tables::specs::Names::same_node, laws::specs::Choice::pick))]
-pub fn word66(totals: Totals, nodes: &[u32], kind: Kind, k: Key, v: Locals) -> Decision
-    ensures { result ≡ word66 totals nodes.now kind k v }
+pub fn word66(t: Shared<'_>, kind: Kind, k: Key, v: Locals) -> Decision
+    ensures { result ≡ word66 t.entry.totals t.entry.nodes.now kind k v }
 {
-    let p = fields::as_parent(nodes, Some(v.p))?;
-    if !fields::same_update(fields::update_at(nodes, p), v.pup) {
+    let p = fields::as_parent(t.nodes, Some(v.p))?;
+    if !fields::same_update(fields::update_at(t.nodes, p), v.pup) {
         return hand::retry();
     }
     if p == ROOT {
-        validated(totals, nodes, kind, k, v)
+        validated(t, kind, k, v)
     } else {
         hand::go_to(v, Place::Grand66)
     }
 }
 
 #[tactic(auto, unfolding(steps::specs::Attempt::grand66, steps::specs::Hand::through, laws::specs::Choice::pick))]
-pub fn grand66(totals: Totals, nodes: &[u32], kind: Kind, k: Key, v: Locals) -> Decision
-    ensures { result ≡ grand66 totals nodes.now kind k v }
+pub fn grand66(t: Shared<'_>, kind: Kind, k: Key, v: Locals) -> Decision
+    ensures { result ≡ grand66 t.entry.totals t.entry.nodes.now kind k v }
 {
-    let gp = fields::as_parent(nodes, v.gp)?;
-    if fields::same_update(fields::update_at(nodes, gp), v.gpup) {
-        validated(totals, nodes, kind, k, v)
+    let gp = fields::as_parent(t.nodes, v.gp)?;
+    if fields::same_update(fields::update_at(t.nodes, gp), v.gpup) {
+        validated(t, kind, k, v)
     } else {
         hand::retry()
     }

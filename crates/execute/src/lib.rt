@@ -8,6 +8,7 @@ ghost use Rattle.tables.specs.Records.{entry};
 ghost use Rattle.steps.specs.Execute.{old_update, frozen97, state98, freeze103};
 
 use crate::fillings::fills;
+use hand::Shared;
 use homes::listed;
 use shapes::{Back, Decision, Effect, HelpStep, Kind, Locals, Place, Update};
 use tables::FLAG;
@@ -30,17 +31,17 @@ fn old_update(o: Kind, v: Locals, i: u32) -> Update
 
 // Lines 96 and 97; the last frozen test is followed by line 102.
 #[tactic(auto, unfolding(steps::specs::Execute::frozen97, laws::specs::Choice::pick))]
-pub fn frozen97(nodes: &[u32], records: &[u32], o: Kind, v: Locals) -> Decision
-    ensures { result ≡ frozen97 nodes.now records.now o v }
+pub fn frozen97(t: Shared<'_>, o: Kind, v: Locals) -> Decision
+    ensures { result ≡ frozen97 t.entry.nodes.now t.entry.records.now o v }
 {
-    if hand::is_frozen(records, old_update(o, v, v.i)) {
+    if hand::is_frozen(t.records, old_update(o, v, v.i)) {
         return hand::go_to(v, Place::State98);
     }
     if v.i < listed(o) {
         return hand::go_to(hand::with_i(v, v.i + 1), Place::Frozen97);
     }
-    if fields::fillable(records, v.info) {
-        fills(nodes, o, v)
+    if fields::fillable(t.records, v.info) {
+        fills(t.nodes, o, v)
     } else {
         None
     }
@@ -61,15 +62,15 @@ pub fn state98(records: &[u32], o: Kind, v: Locals) -> Decision
 
 // Lines 103 to 105: the CAS of nodes[1].
 #[tactic(auto, unfolding(steps::specs::Execute::freeze103, laws::specs::Choice::pick))]
-pub fn freeze103(nodes: &[u32], records: &[u32], v: Locals) -> Decision
-    ensures { result ≡ freeze103 nodes.now records.now v }
+pub fn freeze103(t: Shared<'_>, v: Locals) -> Decision
+    ensures { result ≡ freeze103 t.entry.nodes.now t.entry.records.now v }
 {
     let info = v.info;
-    if !fields::helpable(records, info) {
+    if !fields::helpable(t.records, info) {
         return None;
     }
-    let first = fields::entry_at(records, info, 1);
-    if !fields::same_update(fields::update_at(nodes, first.node), first.old) {
+    let first = fields::entry_at(t.records, info, 1);
+    if !fields::same_update(fields::update_at(t.nodes, first.node), first.old) {
         return hand::retry();
     }
     let frozen = Update { mark: FLAG, info };

@@ -4,7 +4,9 @@ ghost use Rattle.steps.specs.Hand.{does, goes, says, retries, helps};
 
 use crate::making::holding_record;
 use fields::blank;
-use shapes::{Answer, Back, Decision, Effect, HelpStep, Locals, Next, PendingChange, Place, RecordNo, Step};
+use shapes::{
+    Answer, Back, Decision, Effect, HelpStep, Locals, Next, PendingChange, Place, RecordNo, Step,
+};
 
 pub fn decide_to(e: Effect, v: Locals, q: Place) -> Decision
     ensures { result ≡ does e v q }

@@ -1,6 +1,7 @@
 // What a worker takes into its hand, and the decisions that leave its lists alone.
 #![tactic(auto)]
 
+mod looks; // what a turn looks at
 mod making; // hands made anew
 mod taking; // one thing more taken into a hand
 mod decisions; // what a turn can decide where it leaves the lists alone
@@ -9,6 +10,7 @@ ghost use Rattle.std.specs.Prelude.{◌≡◌};
 ghost use Rattle.steps.specs.Execute.{frozen};
 
 pub use decisions::{decide_to, go_to, help_then_retry, retry, say};
+pub use looks::{Lists, Range, Shared};
 pub use making::{at_node, at_root, at_word, fresh_word, holding_record};
 use shapes::Update;
 use tables::{ABORT, FLAG};

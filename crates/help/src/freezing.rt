@@ -2,7 +2,8 @@
 ghost use Rattle.std.specs.Prelude.{◌≡◌};
 ghost use Rattle.steps.specs.Help.{reads, counter111, state_cas, state114, freeze_cas, frozen119};
 
-use shapes::{Effect, HelpMove, HelpStep, RecordNo, Totals, Update};
+use hand::Shared;
+use shapes::{Effect, HelpMove, HelpStep, RecordNo, Update};
 use tables::{TRY, UNDECIDED};
 
 // Where HELP begins in the list: line 103 froze nodes[1].
@@ -17,11 +18,11 @@ pub fn reads(s: HelpStep) -> Option<HelpMove>
 
 // Line 111: the handshake.
 #[tactic(auto, unfolding(steps::specs::Help::counter111, laws::specs::Choice::pick))]
-pub fn counter111(totals: Totals, records: &[u32], r: RecordNo) -> Option<HelpMove>
-    ensures { result ≡ counter111 totals records.now r }
+pub fn counter111(t: Shared<'_>, r: RecordNo) -> Option<HelpMove>
+    ensures { result ≡ counter111 t.entry.totals t.entry.records.now r }
 {
-    let seq = fields::seq_at(records, r);
-    if totals.counter == seq.0 {
+    let seq = fields::seq_at(t.records, r);
+    if t.totals.counter == seq.0 {
         reads(HelpStep::Try113)
     } else {
         reads(HelpStep::Abort112)
@@ -46,11 +47,7 @@ pub fn state114(records: &[u32], r: RecordNo) -> Option<HelpMove>
     ensures { result ≡ state114 records.now r }
 {
     if fields::state_at(records, r) == TRY {
-        Some(HelpMove::Goes(
-            Effect::Nothing,
-            SECOND,
-            HelpStep::Freeze117,
-        ))
+        Some(HelpMove::Goes(Effect::Nothing, SECOND, HelpStep::Freeze117))
     } else {
         reads(HelpStep::State125)
     }
@@ -58,11 +55,11 @@ pub fn state114(records: &[u32], r: RecordNo) -> Option<HelpMove>
 
 // Lines 116 to 118: the CAS of nodes[i].
 #[tactic(auto, unfolding(steps::specs::Help::freeze_cas, laws::specs::Choice::pick))]
-pub fn freeze_cas(nodes: &[u32], records: &[u32], r: RecordNo, i: u32) -> Effect
-    ensures { result ≡ freeze_cas nodes.now records.now r i }
+pub fn freeze_cas(t: Shared<'_>, r: RecordNo, i: u32) -> Effect
+    ensures { result ≡ freeze_cas t.entry.nodes.now t.entry.records.now r i }
 {
-    let e = fields::entry_at(records, r, i);
-    if !fields::same_update(fields::update_at(nodes, e.node), e.old) {
+    let e = fields::entry_at(t.records, r, i);
+    if !fields::same_update(fields::update_at(t.nodes, e.node), e.old) {
         return Effect::Nothing;
     }
     let frozen = Update {
@@ -74,15 +71,15 @@ pub fn freeze_cas(nodes: &[u32], records: &[u32], r: RecordNo, i: u32) -> Effect
 
 // Lines 119 and 120, then 115 or 122.
 #[tactic(auto, unfolding(steps::specs::Help::frozen119, tables::specs::Names::same_record, laws::specs::Choice::pick))]
-pub fn frozen119(nodes: &[u32], records: &[u32], r: RecordNo, i: u32) -> Option<HelpMove>
-    ensures { result ≡ frozen119 nodes.now records.now r i }
+pub fn frozen119(t: Shared<'_>, r: RecordNo, i: u32) -> Option<HelpMove>
+    ensures { result ≡ frozen119 t.entry.nodes.now t.entry.records.now r i }
 {
-    let e = fields::entry_at(records, r, i);
-    let word = fields::update_at(nodes, e.node);
+    let e = fields::entry_at(t.records, r, i);
+    let word = fields::update_at(t.nodes, e.node);
     if word.info != r {
         return reads(HelpStep::State125);
     }
-    if i < fields::count_at(records, r) {
+    if i < fields::count_at(t.records, r) {
         Some(HelpMove::Goes(Effect::Nothing, i + 1, HelpStep::Freeze117))
     } else {
         reads(HelpStep::Child123)

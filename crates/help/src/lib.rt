@@ -5,39 +5,33 @@ mod freezing; // lines 111 to 122: a state, and the nodes frozen in order
 mod linking; // lines 84 to 87 and 123 to 125: CAS-CHILD, and how the record ended
 
 ghost use Rattle.std.specs.Prelude.{◌≡◌};
-ghost use Rattle.tables.specs.World.{tables};
 ghost use Rattle.steps.specs.Help.{help_step, help_of, back_to, help_next};
+ghost use Rattle.hand.specs.Looks.{shared_of};
 
 use crate::freezing::{counter111, freeze_cas, frozen119, state_cas, state114};
 use crate::linking::{child123, state125};
-use shapes::{Answer, Back, Decision, Effect, HelpMove, HelpStep, Locals, Place, RecordNo, Totals};
+use hand::Shared;
+use shapes::{Answer, Back, Decision, Effect, HelpMove, HelpStep, Locals, Place, RecordNo};
 use tables::{ABORT, COMMIT, TRY};
 
 // One turn inside HELP, by the line it executes.
 #[tactic(auto, unfolding(steps::specs::Help::help_step))]
-fn help_step(
-    totals: Totals,
-    nodes: &[u32],
-    records: &[u32],
-    r: RecordNo,
-    i: u32,
-    b: HelpStep,
-) -> Option<HelpMove>
-    ensures { result ≡ help_step (tables totals nodes.now records.now) r i b }
+fn help_step(t: Shared<'_>, r: RecordNo, i: u32, b: HelpStep) -> Option<HelpMove>
+    ensures { result ≡ help_step (shared_of t.entry) r i b }
 {
     let (effect, next_i, next) = match b {
-        HelpStep::Counter111 => return counter111(totals, records, r),
-        HelpStep::State114 => return state114(records, r),
-        HelpStep::Frozen119 => return frozen119(nodes, records, r, i),
-        HelpStep::State125 => return state125(records, r),
+        HelpStep::Counter111 => return counter111(t, r),
+        HelpStep::State114 => return state114(t.records, r),
+        HelpStep::Frozen119 => return frozen119(t, r, i),
+        HelpStep::State125 => return state125(t.records, r),
         HelpStep::State127 => {
-            let done = fields::state_at(records, r) == COMMIT;
+            let done = fields::state_at(t.records, r) == COMMIT;
             return Some(HelpMove::Done(done));
         }
-        HelpStep::Abort112 => (state_cas(records, r, ABORT), 0, HelpStep::State114),
-        HelpStep::Try113 => (state_cas(records, r, TRY), 0, HelpStep::State114),
-        HelpStep::Freeze117 => (freeze_cas(nodes, records, r, i), i, HelpStep::Frozen119),
-        HelpStep::Child123 => (child123(nodes, records, r), 0, HelpStep::Commit124),
+        HelpStep::Abort112 => (state_cas(t.records, r, ABORT), 0, HelpStep::State114),
+        HelpStep::Try113 => (state_cas(t.records, r, TRY), 0, HelpStep::State114),
+        HelpStep::Freeze117 => (freeze_cas(t, r, i), i, HelpStep::Frozen119),
+        HelpStep::Child123 => (child123(t, r), 0, HelpStep::Commit124),
         HelpStep::Commit124 => (Effect::SetState(r, COMMIT), 0, HelpStep::State127),
         HelpStep::Abort126 => (Effect::SetState(r, ABORT), 0, HelpStep::State127),
     };
@@ -46,18 +40,11 @@ fn help_step(
 
 // Helping the dummy or an unfilled record is crooked in each turn.
 #[tactic(auto, unfolding(steps::specs::Help::help_of, laws::specs::Choice::pick))]
-pub fn help_of(
-    totals: Totals,
-    nodes: &[u32],
-    records: &[u32],
-    r: RecordNo,
-    i: u32,
-    b: HelpStep,
-) -> Option<HelpMove>
-    ensures { result ≡ help_of (tables totals nodes.now records.now) r i b }
+pub fn help_of(t: Shared<'_>, r: RecordNo, i: u32, b: HelpStep) -> Option<HelpMove>
+    ensures { result ≡ help_of (shared_of t.entry) r i b }
 {
-    if fields::helpable(records, r) {
-        help_step(totals, nodes, records, r, i, b)
+    if fields::helpable(t.records, r) {
+        help_step(t, r, i, b)
     } else {
         None
     }

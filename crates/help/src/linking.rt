@@ -4,6 +4,7 @@ ghost use Rattle.tables.specs.Records.{par_at, old_child_at, new_child_at};
 ghost use Rattle.steps.specs.Help.{cas_child, state125};
 
 use crate::freezing::reads;
+use hand::Shared;
 use shapes::{Effect, HelpMove, HelpStep, NodeNo, RecordNo};
 use tables::TRY;
 
@@ -22,13 +23,13 @@ fn cas_child(nodes: &[u32], parent: NodeNo, old: NodeNo, new: NodeNo) -> Effect
 }
 
 // Line 123: CAS-CHILD of what the record says.
-pub fn child123(nodes: &[u32], records: &[u32], r: RecordNo) -> Effect
-    ensures { result ≡ cas_child nodes.now (par_at records.now r) (old_child_at records.now r) (new_child_at records.now r) }
+pub fn child123(t: Shared<'_>, r: RecordNo) -> Effect
+    ensures { result ≡ cas_child t.entry.nodes.now (par_at t.entry.records.now r) (old_child_at t.entry.records.now r) (new_child_at t.entry.records.now r) }
 {
-    let par = fields::par_at(records, r);
-    let old = fields::old_child_at(records, r);
-    let new = fields::new_child_at(records, r);
-    cas_child(nodes, par, old, new)
+    let par = fields::par_at(t.records, r);
+    let old = fields::old_child_at(t.records, r);
+    let new = fields::new_child_at(t.records, r);
+    cas_child(t.nodes, par, old, new)
 }
 
 // Line 125.

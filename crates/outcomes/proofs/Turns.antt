@@ -1,6 +1,5 @@
 -- Every exported function on the way to a turn, a run and a start: each has one outcome.
-use Rattle.laws.specs.Outcomes.{OneOutcome, OneAnswer, one_answer, one-answer-at}
-use Rattle.tables.specs.Names.{root}
+use Rattle.laws.specs.Outcomes.{OneOutcome, OneAnswer, one_answer}
 use Rattle.outcomes.specs.Lent.{exit}
 use Rattle.outcomes.proofs.Lent.{writes, reads, runs}
 use Rattle.hand.proofs as hand
@@ -93,7 +92,7 @@ pub sweep-once :
     OneAnswer sweep.left144.Reads.Post ×
     OneAnswer sweep.state140.Reads.Post ×
     OneAnswer sweep.word139.Reads.Post
-sweep-once = (one_answer _, one-answer-at root _, one_answer _, one_answer _, one_answer _)
+sweep-once = (one_answer _, one_answer _, one_answer _, one_answer _, one_answer _)
 
 -- `scanning`: a scan's turn
 pub scanning-once :

@@ -2,52 +2,43 @@
 #![tactic(auto)]
 
 ghost use Rattle.std.specs.Prelude.{◌≡◌};
-ghost use Rattle.tables.specs.World.{tables};
 ghost use Rattle.steps.specs.Help.{help_of, help_next};
 ghost use Rattle.steps.specs.Decide.{scan};
-ghost use Rattle.sweep.specs.Parts.{lists};
+ghost use Rattle.hand.specs.Looks.{shared_of, lists_of};
 
-use shapes::{Back, Decision, HelpStep, Key, Locals, NodeNo, Phase, Place, Totals};
+use hand::{Lists, Range, Shared};
+use shapes::{Back, Decision, HelpStep, Key, Locals, Phase, Place};
 
 // Inside HELP an attempt and a scan do the same.
-pub fn decide_help(
-    totals: Totals,
-    nodes: &[u32],
-    records: &[u32],
-    v: Locals,
-    b: HelpStep,
-    c: Back,
-) -> Decision
-    ensures { result ≡ help_next c v (help_of (tables totals nodes.now records.now) v.info v.i b) }
+pub fn decide_help(t: Shared<'_>, v: Locals, b: HelpStep, c: Back) -> Decision
+    ensures { result ≡ help_next c v (help_of (shared_of t.entry) v.info v.i b) }
 {
-    let came = help::help_of(totals, nodes, records, v.info, v.i, b);
+    let came = help::help_of(t, v.info, v.i, b);
     help::help_next(c, v, came)
 }
 
 // A scan; at an attempt's place it is crooked.
 #[tactic(auto, unfolding(steps::specs::Decide::scan))]
 pub fn decide_scan(
-    totals: Totals,
-    nodes: &[u32],
-    records: &[u32],
-    top: NodeNo,
-    pending: u32,
-    found: u32,
+    t: Shared<'_>,
+    lists: Lists,
     low: Key,
     high: Key,
     v: Locals,
     q: Place,
 ) -> Decision
-    ensures { result ≡ scan (tables totals nodes.now records.now) (lists top pending found) low high v q }
+    ensures { result ≡ scan (shared_of t.entry) (lists_of lists) low high v q }
 {
+    let seq = v.seq;
+    let range = Range { low, high, seq };
     match q {
-        Place::Help(b, c) => decide_help(totals, nodes, records, v, b, c),
-        Place::Counter130 => hand::go_to(hand::at_root(Phase(totals.counter)), Place::Bump131),
-        Place::Bump131 => sweep::bump131(totals, v),
-        Place::Word139 => sweep::word139(nodes, v),
-        Place::State140 => sweep::state140(records, v),
-        Place::Child141 => sweep::child141(totals, nodes, low, high, pending, found, v),
-        Place::Left144 => sweep::left144(totals, nodes, low, high, v.seq, top, pending, found),
+        Place::Help(b, c) => decide_help(t, v, b, c),
+        Place::Counter130 => hand::go_to(hand::at_root(Phase(t.totals.counter)), Place::Bump131),
+        Place::Bump131 => sweep::bump131(t.totals, v),
+        Place::Word139 => sweep::word139(t.nodes, v),
+        Place::State140 => sweep::state140(t.records, v),
+        Place::Child141 => sweep::child141(t, range, lists, v),
+        Place::Left144 => sweep::left144(t, range, lists),
         Place::Counter74
         | Place::Search39
         | Place::Link(_, _)

@@ -2,7 +2,8 @@
 ghost use Rattle.std.specs.Prelude.{◌≡◌};
 ghost use Rattle.steps.specs.Search.{goes_left, landed, search39};
 
-use shapes::{Decision, Key, Link, LinkStep, Locals, NodeNo, Place, Totals};
+use hand::Shared;
+use shapes::{Decision, Key, Link, LinkStep, Locals, NodeNo, Place};
 
 // An infinite key is wider than a word, so keys are compared in 64 bits.
 #[tactic(auto, unfolding(steps::specs::Search::goes_left))]
@@ -29,11 +30,11 @@ fn landed(nodes: &[u32], v: Locals, c: NodeNo) -> Decision
 }
 
 #[tactic(auto, unfolding(steps::specs::Search::search39, steps::specs::Hand::through))]
-pub fn search39(totals: Totals, nodes: &[u32], k: Key, v: Locals) -> Decision
-    ensures { result ≡ search39 totals nodes.now k v }
+pub fn search39(t: Shared<'_>, k: Key, v: Locals) -> Decision
+    ensures { result ≡ search39 t.entry.totals t.entry.nodes.now k v }
 {
-    let p = fields::as_parent(nodes, Some(v.p))?;
-    let left = goes_left(nodes, k, p);
-    let c = fields::read_child(totals.nodes, nodes, p, left, v.seq)?;
-    landed(nodes, v, c)
+    let p = fields::as_parent(t.nodes, Some(v.p))?;
+    let left = goes_left(t.nodes, k, p);
+    let c = fields::read_child(t.totals.nodes, t.nodes, p, left, v.seq)?;
+    landed(t.nodes, v, c)
 }

@@ -3,6 +3,7 @@ ghost use Rattle.std.specs.Prelude.{◌≡◌};
 ghost use Rattle.steps.specs.Validate.{word52, state53, child57, link_of, link_parent, copy_child, link_child, sibling_left, parent_left, link_left};
 
 use crate::search::goes_left;
+use hand::Shared;
 use shapes::{Key, Link, LinkMove, LinkStep, Locals, NodeNo, Update};
 
 #[tactic(auto, unfolding(steps::specs::Validate::word52))]
@@ -45,20 +46,19 @@ fn child57(
 
 #[tactic(auto, unfolding(steps::specs::Validate::link_of))]
 pub fn link_of(
-    nodes: &[u32],
-    records: &[u32],
+    t: Shared<'_>,
     parent: Option<NodeNo>,
     child: Option<NodeNo>,
     left: bool,
     up: Update,
     step: LinkStep,
 ) -> Option<LinkMove>
-    ensures { result ≡ link_of nodes.now records.now parent child left up step }
+    ensures { result ≡ link_of t.entry.nodes.now t.entry.records.now parent child left up step }
 {
     match step {
-        LinkStep::Word52 => word52(nodes, parent),
-        LinkStep::State53 => state53(records, up),
-        LinkStep::Child57 => child57(nodes, parent, child, left),
+        LinkStep::Word52 => word52(t.nodes, parent),
+        LinkStep::State53 => state53(t.records, up),
+        LinkStep::Child57 => child57(t.nodes, parent, child, left),
     }
 }
 

@@ -4,7 +4,10 @@
 ghost use Rattle.std.specs.Prelude.{◌≡◌};
 ghost use Rattle.steps.specs.Attempt.{room, take_three, take_copy, copy_word};
 
-use shapes::{Answer, Decision, Effect, Key, Link, LinkStep, Locals, NodeNo, Place, RecordNo, Totals};
+use hand::Shared;
+use shapes::{
+    Answer, Decision, Effect, Key, Link, LinkStep, Locals, NodeNo, Place, RecordNo, Totals,
+};
 use tables::{DELETE_TAKES, INSERT_TAKES};
 
 // Totals may be any numbers, so the sums are made in 64 bits.
@@ -33,13 +36,13 @@ pub fn take_three(totals: Totals, k: Key, v: Locals) -> Decision
 
 // Line 185: the children of a copy are read next, if it has any.
 #[tactic(auto, unfolding(steps::specs::Attempt::take_copy, laws::specs::Choice::pick))]
-pub fn take_copy(totals: Totals, nodes: &[u32], v: Locals) -> Decision
-    ensures { result ≡ take_copy totals nodes.now v }
+pub fn take_copy(t: Shared<'_>, v: Locals) -> Decision
+    ensures { result ≡ take_copy t.entry.totals t.entry.nodes.now v }
 {
-    if room(totals, DELETE_TAKES) {
-        let taken = hand::with_taken(v, NodeNo(totals.nodes), RecordNo(totals.records));
+    if room(t.totals, DELETE_TAKES) {
+        let taken = hand::with_taken(v, NodeNo(t.totals.nodes), RecordNo(t.totals.records));
         let effect = Effect::TakeCopy(v.sibling, v.p, v.seq);
-        if fields::is_internal(nodes, v.sibling) {
+        if fields::is_internal(t.nodes, v.sibling) {
             hand::decide_to(effect, taken, Place::CopyLeft)
         } else {
             hand::decide_to(effect, taken, Place::Word189)

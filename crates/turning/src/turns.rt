@@ -10,6 +10,7 @@ ghost use Rattle.turning.specs.Fits.{fits, step_within};
 use crate::lists::{add, push, spot, top};
 use crate::workers::{outcome_of, worker_next};
 use boards::{refuse, with_worker, worker_of};
+use hand::{Lists, Shared};
 use shapes::{Board, Operation, Refusal, Reply, Step, Worker};
 use tables::MOST_NODES;
 
@@ -65,8 +66,17 @@ fn step_on(
         return refuse(board, Refusal::Idle);
     };
     let totals = board.totals;
-    let last = top(totals, pending, w, k.pending);
-    let decision = deciding::decide(totals, nodes, records, last, k.pending, k.found, o, k.hand);
+    let lists = Lists {
+        top: top(totals, pending, w, k.pending),
+        pending: k.pending,
+        found: k.found,
+    };
+    let shared = Shared {
+        totals,
+        nodes,
+        records,
+    };
+    let decision = deciding::decide(shared, lists, o, k.hand);
     let Some(d) = decision else {
         return refuse(board, Refusal::Crooked);
     };

@@ -12,11 +12,11 @@ returns-in_default c = rw (c.in_default.is, c.refuse.ensures) refl
 
 pub returns-in_default-decision : goal.returns-in_default-decision
 unfolding step_on settle lists_of pending_at
-returns-in_default-decision c = rw (c.in-Some.is, ← c.top-last.ensures, ← c.decide-decision.ensures, c.in_default-decision.is, c.refuse-in_default-decision.ensures) refl
+returns-in_default-decision c = rw (c.in-Some.is, ← c.top.ensures, ← c.decide-decision.ensures, c.in_default-decision.is, c.refuse-in_default-decision.ensures) refl
 
 pub settled-requires : goal.settled-requires
 settled-requires c = c.requires
 
 pub returns : goal.returns
 unfolding lists_of pending_at
-returns c = left_same c.settled.ensures c.outcome_of.ensures ∙ sym (goes_on _ _ _ _ _ _ c.in-Some.is (rw (← c.top-last.ensures) (sym c.decide-decision.ensures ∙ c.in-Some-decision.is)))
+returns c = left_same c.settled.ensures c.outcome_of.ensures ∙ sym (goes_on _ _ _ _ _ _ c.in-Some.is (rw (← c.top.ensures) (sym c.decide-decision.ensures ∙ c.in-Some-decision.is)))
