@@ -45,6 +45,7 @@ def enums(text):
 
 
 NOTHING = {"Absent", "Crooked", "Keep", "Idle", "Faulty", "TooShort", "Refused", "Unreadable"}
+FAILURES = {"Crooked", "Faulty", "Refused", "Unreadable"}
 # cases that go beside many others, none of them a value that is there
 CASES = {"Line", "Refusal"}
 SHELVES = "nodes records pending found".split()
@@ -54,7 +55,8 @@ def point1(files):
     """own enums with a variant for nothing or for a failure; fields that are a flag, or a number for a kind"""
     for name, text in files:
         for e, variants, _ in enums(text):
-            if NOTHING & set(variants) and e not in CASES:
+            lost = NOTHING & set(variants)
+            if lost and lost != set(variants) and (len(variants) == 2 or lost & FAILURES) and e not in CASES:
                 yield f"{name}: enum {e} {variants}"
         for m in re.finditer(r"^    pub (kind|class|mark|state|command): u\d+|^    (?:pub )?(?:four|said|below): bool|^    taken: usize|fn \w+\([^)]*\b(?:kind|class|state|s): u(?:8|32)\b|fn entry_of\([^)]*u32|fn is_call\([^)]*u8|SetState\(RecordNo, u32\)|^pub const (?:LEAF|UNDECIDED|FLAG|INSERT): u32", text, re.M):
             yield f"{name}: {' '.join(m.group(0).split())[:90]}"

@@ -1,12 +1,11 @@
 // A page that is written from its start: bytes, texts and numbers, each at the place where the last one ended.
 // On a full page nothing changes, so that no caller has to count.
+// Stays: (a) outcomes:Pages.lines-once takes contracts of one equation; a struct that held `out` and `at` would owe its ghost name too.
 ghost use Rattle.std.specs.Prelude.{◌≡◌, [], ◌∷◌};
 ghost use Rattle.lines.specs.Text.{blank, decimal, signed};
 ghost use Rattle.lines.specs.Page.{page, fill};
 
-const BASE: u64 = 10;
-
-const ZERO: u8 = b'0';
+use itoa::Buffer;
 
 const BLANK: u8 = b' ';
 
@@ -32,15 +31,11 @@ pub fn put_text(text: &[u8], out: &mut [u8], at: usize) -> usize
     place
 }
 
-#[tactic(auto, using(crate::proofs::Steps::digits))]
+#[tactic(auto, using(crate::proofs::Printed::same_decimal))]
 pub fn put_number(n: u64, out: &mut [u8], at: usize) -> usize
     ensures { page result out.new ≡ fill (decimal n) (page at out.old) }
 {
-    if n < BASE {
-        return put_byte(ZERO + n as u8, out, at);
-    }
-    let last = put_number(n / BASE, out, at);
-    put_byte(ZERO + (n % BASE) as u8, out, last)
+    put_text(Buffer::new().format(n).as_bytes(), out, at)
 }
 
 // A blank and a number.
@@ -52,16 +47,11 @@ pub fn put_next(n: u64, out: &mut [u8], at: usize) -> usize
     put_number(n, out, first)
 }
 
-// A blank and a signed number. Its code, as a schedule sends it, is even from 0 on and then twice the number; odd below 0,
-// and then one less than twice the distance from 0.
-#[tactic(auto, using(crate::specs::Digits::signed_natural, crate::specs::Digits::signed_negative), unfolding(crate::specs::Page::fill))]
+// A blank and a signed number.
+#[tactic(auto, using(crate::proofs::Printed::same_signed), unfolding(crate::specs::Page::fill))]
 pub fn put_next_signed(n: i32, out: &mut [u8], at: usize) -> usize
     ensures { page result out.new ≡ fill (blank ∷ signed n) (page at out.old) }
 {
-    let code = groups::code(n) as u64;
-    if code % 2 == 0 {
-        return put_next(code / 2, out, at);
-    }
-    let first = put_text(b" -", out, at);
-    put_number(code / 2 + 1, out, first)
+    let first = put_byte(BLANK, out, at);
+    put_text(Buffer::new().format(n).as_bytes(), out, first)
 }

@@ -13,7 +13,7 @@ use playing::play;
 use reader::{read_command, read_opening};
 use schedule::Command;
 use shapes::Board;
-use spelling::spell;
+use spelling::{PAGE, spell};
 use std::io;
 use std::io::{Read, Write};
 use tally::{end_line, keys_place, no_board};
@@ -48,9 +48,6 @@ impl Evening<'_> {
         played.line
     }
 }
-
-// Room for the longest line.
-const PAGE: usize = 16_384;
 
 // Writes a line, with its keys from place `from` of the found ones.
 fn say<W: Write>(out: &mut W, line: Line, found: &[i32], from: usize) -> io::Result<()> {

@@ -12,7 +12,7 @@ use lines::{Line, listed, put_answer, put_byte, put_next, put_number, put_text, 
 use shapes::{Answer, Refusal};
 
 // How many bytes a page has; no line needs more.
-const PAGE: usize = 16384;
+pub const PAGE: usize = 16_384;
 
 const LINE_FEED: u8 = 10;
 
