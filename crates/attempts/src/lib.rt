@@ -71,6 +71,7 @@ pub fn word189(nodes: &[u32], v: Locals) -> Decision
 }
 
 // Read last, just before EXECUTE.
+// Stays: (d) it differs from `word189` in node, field and place, which a shared function would take as three parameters.
 #[tactic(auto, unfolding(steps::specs::Attempt::leaf_word))]
 pub fn leaf_word(nodes: &[u32], v: Locals) -> Decision
     ensures { result ≡ leaf_word nodes.now v }

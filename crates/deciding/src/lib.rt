@@ -13,6 +13,7 @@ const LEFT: bool = true;
 const RIGHT: bool = false;
 
 // An insert, a delete or a find; at a scan's place it is crooked.
+// Stays: (a) a place is data in a worker's hand, and no function may stand there: one match leads from it to its code.
 #[tactic(auto, unfolding(steps::specs::Decide::attempt))]
 fn decide_attempt(t: Shared<'_>, kind: Kind, k: Key, v: Locals, q: Place) -> Decision
     ensures { result ≡ attempt (shared_of t.entry) kind k v q }

@@ -30,6 +30,7 @@ pub fn counter111(t: Shared<'_>, r: RecordNo) -> Option<HelpMove>
 }
 
 // Lines 112 and 113.
+// Stays: (a) the state is a word of the lent tables (`shapes::Effect`).
 #[tactic(auto, unfolding(steps::specs::Help::state_cas, laws::specs::Choice::pick))]
 pub fn state_cas(records: &[u32], r: RecordNo, s: u32) -> Effect
     ensures { result ≡ state_cas records.now r s }

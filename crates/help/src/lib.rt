@@ -15,6 +15,7 @@ use shapes::{Answer, Back, Decision, Effect, HelpMove, HelpStep, Locals, Place, 
 use tables::{ABORT, COMMIT, TRY};
 
 // One turn inside HELP, by the line it executes.
+// Stays: (a) a step is data in a worker's hand, and no function may stand there: one match leads from it to its code.
 #[tactic(auto, unfolding(steps::specs::Help::help_step))]
 fn help_step(t: Shared<'_>, r: RecordNo, i: u32, b: HelpStep) -> Option<HelpMove>
     ensures { result ≡ help_step (shared_of t.entry) r i b }

@@ -16,6 +16,7 @@ pub fn room() -> [u8; ROOM]
 }
 
 // Reads to the end, or until the buffer is full. A read that fails is no end.
+// Stays: (a) no heap: std's read_to_end asks for memory, and read_exact does not say how much came.
 pub fn read_all<R: Read>(from: &mut R, buffer: &mut [u8]) -> io::Result<usize>
     ensures { IfOk result (λ size. size ≤ length buffer.new) }
 {

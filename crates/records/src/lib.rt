@@ -107,6 +107,7 @@ pub fn entry_at(rs: &[u32], r: RecordNo, i: u32) -> Entry
 
 // ---- writing
 
+// Stays: (a) a state is a word of the lent tables: any number is written, and read, as it comes (tables:Records.set_state).
 #[tactic(auto, unfolding(tables::specs::Records::set_state))]
 pub fn set_state(rs: &mut [u32], r: RecordNo, s: u32)
     ensures { rs.new ≡ set_state rs.old r s }

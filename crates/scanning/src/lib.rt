@@ -18,6 +18,7 @@ pub fn decide_help(t: Shared<'_>, v: Locals, b: HelpStep, c: Back) -> Decision
 }
 
 // A scan; at an attempt's place it is crooked.
+// Stays: (a) a place is data in a worker's hand, and no function may stand there: one match leads from it to its code.
 #[tactic(auto, unfolding(steps::specs::Decide::scan))]
 pub fn decide_scan(
     t: Shared<'_>,

@@ -16,6 +16,7 @@ pub struct Phase(pub u32);
 pub struct Key(pub u32);
 
 // The key of a node: class 0 a finite key, 1 is ∞1, 2 is ∞2; the word of an infinite key is 0.
+// Stays: (a) a word of the lent tables: spoiled ones may hold any number, and `nodes::rank_at` promises it as it stands.
 #[derive(Clone, Copy)]
 pub struct Rank {
     pub class: u32,
@@ -23,6 +24,7 @@ pub struct Rank {
 }
 
 // An update word (lines 1 to 4): mark 0 is FLAG, 1 is MARK.
+// Stays: (a) a word of the lent tables: spoiled ones may hold any number, and `nodes::update_at` promises it as it stands.
 #[derive(Clone, Copy, PartialEq, Eq)]
 pub struct Update {
     pub mark: u32,
@@ -206,6 +208,7 @@ pub enum Kind {
 }
 
 // One node of a record: nodes[i], oldUpdate[i], and 1 where nodes[i] appears in mark.
+// Stays: (a) a word of the lent tables: spoiled ones may hold any number, and `records::entry_at` promises it as it stands.
 #[derive(Clone, Copy)]
 pub struct Entry {
     pub node: NodeNo,
@@ -228,6 +231,7 @@ pub struct Filling {
 }
 
 // All that other workers can notice of a turn.
+// Stays: (a) a state is a word of the lent tables, and `effects::apply` promises to write any.
 #[derive(Clone, Copy)]
 pub enum Effect {
     Nothing,

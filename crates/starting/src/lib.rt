@@ -11,6 +11,8 @@ use beginning::start;
 use fields::key_of;
 use shapes::{Board, Operation, Place, Reply};
 
+// Stays: (d) what the four share is `beginning::start`, and a caller that hands over an `Operation` could begin it at any place.
+
 pub fn start_insert(
     board: Board,
     w: u32,

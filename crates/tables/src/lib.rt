@@ -43,6 +43,7 @@ pub const INSERT_LISTS: u32 = 2;
 pub const DELETE_LISTS: u32 = 4;
 
 // Kinds of nodes.
+// Stays: (a) these stand as words in the lent tables, where spoiled ones hold others; the types and states below too.
 pub const LEAF: u32 = 0;
 
 pub const INTERNAL: u32 = 1;

@@ -53,6 +53,7 @@ fn put_row(t: &mut [u32], width: u32, n: u32, row: &[u32])
 // ---- new rows
 
 // The update word of a new node is (FLAG, dummy).
+// Stays: (a) the kind, and a record's state, are words of the lent tables: any number is written as it comes (tables:Nodes.new_node).
 #[tactic(auto, unfolding(tables::specs::Nodes::new_node, tables::specs::Nodes::new_row))]
 pub fn new_node(
     ns: &mut [u32],
