@@ -12,20 +12,20 @@ pub const BUFFER_SIZE: usize = 8;
 pub const UNWRITTEN: u8 = 0xee;
 
 // Puts the groups of a number at the start of the buffer, and answers how many there are.
+#[tactic(auto, using(crate::proofs::InFront::spelled))]
 pub fn spell(n: u32, buffer: &mut [u8; BUFFER_SIZE]) -> usize
     ensures prefix_len { IsPrefixLen result buffer.new }
     ensures buffer_after { take result buffer.new ≡ groups_of n }
 {
-    let _ = pack::write(n, buffer, 0);
-    groups::length(n)
+    pack::write(n, buffer, 0).unwrap()
 }
 
+#[tactic(auto, using(crate::proofs::InFront::spelled))]
 pub fn spell_signed(n: i32, buffer: &mut [u8; BUFFER_SIZE]) -> usize
     ensures prefix_len { IsPrefixLen result buffer.new }
     ensures buffer_after { take result buffer.new ≡ groups_of (code_of n) }
 {
-    let _ = pack::write_signed(n, buffer, 0);
-    groups::length(groups::code(n))
+    pack::write_signed(n, buffer, 0).unwrap()
 }
 
 // Writes a number as if the buffer had only so much room: what stands behind that stays.
