@@ -99,7 +99,9 @@ def point4(files):
     """functions that compare, test for a variant, convert, copy field by field or print, by hand"""
     for name, text in files:
         for f, head, body in functions(text):
-            if re.match(r"same_|lies_between|between$|key_value|is_(insert|delete|update|node|going|absent)$|(key|number)_of$|refusal_number|one_less|popped|capped|part$|down_to|(link|link_step|help_step|back|place|answer)_of$|as_word|with_digit|signed$|put_(number|next|text|answer)|say", f):
+            everywhere = r"same_|lies_between|between$|key_value|is_(insert|delete|update|node|going|absent)$|(key|number)_of$|refusal_number|one_less|popped|capped|part$|down_to|signed$"
+            printed = r"(link|link_step|help_step|back|place|answer)_of$|as_word|with_digit|put_(number|next|text|answer)|say"
+            if re.match(everywhere, f) or (name.split("/")[1] in ("byhand", "leaves", "lines") and re.match(printed, f)):
                 yield f"{name}: {f}"
 
 
