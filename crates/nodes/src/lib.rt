@@ -54,6 +54,7 @@ pub fn rank_at(ns: &[u32], x: NodeNo) -> Rank
 }
 
 // The order of ranks as an order of numbers.
+// Stays: (d) a derived Ord would answer the same, but the tests of the report compare a finite key of 32 bits with a rank.
 #[tactic(auto, unfolding(tables::specs::Names::value))]
 pub fn key_value(k: Rank) -> u64
     ensures { result ≡ value k }

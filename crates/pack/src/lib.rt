@@ -21,6 +21,7 @@ fn put_groups(n: u32, buffer: &mut [u8], at: usize)
     put_groups(n / GROUP, buffer, at + 1);
 }
 
+// Stays: (a) groups:Format.write_of and schedule:Writing speak of a buffer and a place in it, and `writer` writes each command behind the last.
 // Writes a number at a place of the buffer, and says where it ends; the buffer stays as it was where the number does not fit.
 #[tactic(auto, using(groups::specs::Writing::writes))]
 pub fn write(n: u32, buffer: &mut [u8], at: usize) -> Result<usize, TooShort>
