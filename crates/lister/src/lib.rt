@@ -38,9 +38,7 @@ pub fn list(
         leaves: used,
         at: 0,
     };
-    let Some(end) = walk(used, used, nodes, i, ROOT, start, &mut []) else {
-        return Err(Refusal::Crooked);
-    };
+    let end = walk(used, used, nodes, i, ROOT, start, &mut []).ok_or(Refusal::Crooked)?;
     walk(used, used, nodes, i, ROOT, start, keys);
     Ok(end.at)
 }
