@@ -47,15 +47,7 @@ impl fmt::Display for Said {
 
 impl fmt::Display for Refused {
     fn fmt<W: fmt::Write>(&self, f: &mut fmt::Formatter<W>) -> fmt::Result {
-        let number = match self.0 {
-            Refusal::Table => 1,
-            Refusal::Size => 2,
-            Refusal::Worker => 3,
-            Refusal::Busy => 4,
-            Refusal::Idle => 5,
-            Refusal::Crooked => 7,
-        };
-        write!(f, "refused {number}")
+        write!(f, "refused {}", self.0 as u32)
     }
 }
 
