@@ -21,12 +21,10 @@ mod buffers; // numbers written to be shown
 mod telling; // the words of a line
 mod rows; // a line to each kind of row
 
+use crate::buffers::{BUFFER_SIZE, UNWRITTEN, spell, spell_signed};
 use crate::numbers::{signed_word, word_at};
-use crate::rows::{
-    show_key, show_lap, show_number, show_pad, show_reading, show_signed, show_signed_reading,
-    show_unknown, show_writing,
-};
-use crate::telling::say;
+use crate::rows::{show_key, show_lap, show_pad, show_read, show_unknown, show_writing};
+use crate::telling::{say, say_spelt};
 use input::{read_all, room};
 
 const ROW: usize = 10;
@@ -49,10 +47,17 @@ fn show_row(rt: &impl Print, row: &[u8; ROW]) {
     };
     let first = word_at(row, PAYLOAD);
     match kind {
-        b'n' => show_number(rt, first),
-        b's' => show_signed(rt, signed_word(first)),
-        b'r' => show_reading(rt, bytes),
-        b'g' => show_signed_reading(rt, bytes),
+        b'n' => {
+            let mut buffer = [UNWRITTEN; BUFFER_SIZE];
+            say_spelt(rt, "number", first, spell(first, &mut buffer));
+        }
+        b's' => {
+            let number = signed_word(first);
+            let mut buffer = [UNWRITTEN; BUFFER_SIZE];
+            say_spelt(rt, "signed", number, spell_signed(number, &mut buffer));
+        }
+        b'r' => show_read(rt, "read", bytes, unpack::read(bytes)),
+        b'g' => show_read(rt, "readsigned", bytes, unpack::read_signed(bytes)),
         b'w' => show_writing(rt, first, row[SECOND] as usize, count),
         b'l' => show_lap(rt, signed_word(first), word_at(row, SECOND)),
         b'k' => show_key(rt, signed_word(first)),

@@ -1,38 +1,23 @@
 // A line to each kind of row.
 ghost use Rattle.std.specs.Prelude.{◌≤◌};
 
-use crate::buffers::{BUFFER_SIZE, UNWRITTEN, spell, spell_signed, write_in_front};
-use crate::telling::{
-    say, say_bytes, say_fault, say_key_refusal, say_read, say_size_refusal, say_spelt,
-};
-use groups::TooShort;
+use crate::buffers::{BUFFER_SIZE, UNWRITTEN, write_in_front};
+use crate::telling::{say, say_bytes, say_fault, say_key_refusal, say_read, say_size_refusal};
+use groups::{Fault, TooShort};
 use laps::OutOfRange;
+use std::fmt::Display;
 
-pub fn show_number(rt: &impl Print, n: u32) {
-    let mut buffer = [UNWRITTEN; BUFFER_SIZE];
-    say_spelt(rt, "number", n, spell(n, &mut buffer));
-}
-
-pub fn show_signed(rt: &impl Print, n: i32) {
-    let mut buffer = [UNWRITTEN; BUFFER_SIZE];
-    say_spelt(rt, "signed", n, spell_signed(n, &mut buffer));
-}
-
-pub fn show_reading(rt: &impl Print, bytes: &[u8]) {
-    say(rt, "read");
+// What bytes read as, whichever the numbers are.
+pub fn show_read<N: Display + Drop>(
+    rt: &impl Print,
+    kind: &str,
+    bytes: &[u8],
+    came: Result<(N, usize), Fault>,
+) {
+    say(rt, kind);
     say_bytes(rt, bytes);
     say(rt, " = ");
-    match unpack::read(bytes) {
-        Ok((n, taken)) => say_read(rt, n, taken),
-        Err(fault) => say_fault(rt, fault),
-    }
-}
-
-pub fn show_signed_reading(rt: &impl Print, bytes: &[u8]) {
-    say(rt, "readsigned");
-    say_bytes(rt, bytes);
-    say(rt, " = ");
-    match unpack::read_signed(bytes) {
+    match came {
         Ok((n, taken)) => say_read(rt, n, taken),
         Err(fault) => say_fault(rt, fault),
     }
