@@ -44,8 +44,8 @@ def enums(text):
         yield m.group(1), re.findall(r"^    (\w+)", m.group(2), re.M), m.group(2)
 
 
-NOTHING = {"Absent", "Crooked", "Keep", "Idle", "Faulty", "TooShort", "Refused", "Unreadable"}
-FAILURES = {"Crooked", "Faulty", "Refused", "Unreadable"}
+NOTHING = {"Absent", "Crooked", "Keep", "Idle", "Faulty", "TooShort", "Refused", "Unreadable", "Unwritable"}
+FAILURES = {"Crooked", "Faulty", "Refused", "Unreadable", "Unwritable"}
 # cases that go beside many others, none of them a value that is there
 CASES = {"Line", "Refusal"}
 SHELVES = "nodes records pending found".split()
@@ -131,10 +131,11 @@ def point6(files):
 
 
 def point7(files):
-    """a match on the step, place or command that is to run"""
+    """a match whose cases run three functions or more, one for each step, command or kind"""
     for name, text in files:
         for f, head, body in functions(text):
-            if re.search(r"match (q|b|s|a|step|command|words\.command|o) \{", body) and len(re.findall(r"=> *\w[\w:]*\(", body)) >= 3:
+            runs = set(re.findall(r"=>\s*\{?\s*(?:return )?([a-z_]\w*(?:::\w+)*)\(", body))
+            if "match " in body and len(runs) >= 3:
                 yield f"{name}: {f}"
 
 

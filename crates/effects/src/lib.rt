@@ -16,6 +16,7 @@ use shapes::{Effect, Totals};
 use tables::{DELETE_TAKES, INSERT_TAKES, UNDECIDED};
 pub use totals::within;
 
+// Stays: (d) the cases are closed and each is met here alone: a function for each would be a table in place of this match.
 #[tactic(auto, unfolding(steps::specs::Apply::apply))]
 fn carried_out(e: Effect, totals: Totals, nodes: &mut [u32], records: &mut [u32]) -> Totals
     requires { WithinSizes totals }

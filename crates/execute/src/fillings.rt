@@ -7,6 +7,7 @@ use shapes::{Decision, Effect, Entry, Filling, Kind, Locals, NodeNo, Place, Upda
 use tables::{DELETE_LISTS, FLAG, INSERT_LISTS, MARK, ROOT};
 
 // nodes[i], its old word, and MARK where it is to be marked.
+// Stays: (a) the mark is a word of the lent tables (`shapes::Entry`).
 fn entry_of(node: NodeNo, old: Update, mark: u32) -> Entry
     ensures { result ≡ entry node old mark }
 {

@@ -10,6 +10,7 @@ use tables::{
     ABORT, DUMMY, FRESH_NODES, FRESH_RECORDS, INTERNAL, LEAF, NODE_WIDTH, RECORD_WIDTH, ROOT,
 };
 
+// Stays: (a) the class is a word of the lent tables (`shapes::Rank`).
 fn infinite(class: u32) -> Rank
     ensures { result ≡ infinite class }
 {

@@ -53,6 +53,7 @@ pub fn length(n: u32) -> usize
 }
 
 // A signed number as it is sent: 2n, or -2n - 1 when negative.
+// Stays: (d) a code is a u32 like any other, so From could not tell it from a cast; `signed` too.
 #[tactic(auto, using(crate::proofs::Signs::by_sign))]
 pub fn code(n: i32) -> u32
     ensures { result ≡ code_of n }

@@ -29,6 +29,7 @@ pub fn spell_signed(n: i32, buffer: &mut [u8; BUFFER_SIZE]) -> &[u8]
 }
 
 // Writes a number as if the buffer had only so much room: what stands behind that stays.
+// Stays: (a) it tries `pack::write`, which takes a buffer and a place.
 #[tactic(auto, unfolding(crate::specs::Table::write_in_front))]
 pub fn write_in_front(n: u32, buffer: &mut [u8], at: usize, room: usize) -> Result<usize, TooShort>
     requires { room ≤ length buffer.old }

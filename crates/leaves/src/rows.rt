@@ -61,6 +61,7 @@ pub fn show_pad(rt: &impl Print, thousandths: i32) {
     }
 }
 
+// Stays: (d) a kind that is none has no case in an enum; it is shown as the number that it is.
 pub fn show_unknown(rt: &impl Print, kind: u8) {
     let _ = print!(rt; "? {kind}");
 }

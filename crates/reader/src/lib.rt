@@ -40,6 +40,7 @@ pub fn read_opening(file: &[u8]) -> Option<(Opening, usize)>
 }
 
 // The command that these numbers are; b counts for a scan only, and no turns are a fault.
+// Stays: (d) a number that is no kind is a fault: an enum with TryFrom would be this match, and then another.
 #[tactic(auto, using(crate::proofs::ByKind::by_kind))]
 fn command_of(kind: u32, worker: u32, a: u32, b: u32, end: usize) -> Option<(Command, usize)>
     ensures { result ≡ command_of kind worker a b end }

@@ -50,6 +50,7 @@ impl Evening<'_> {
 }
 
 // Writes a line, with its keys from place `from` of the found ones.
+// Stays: (a) fixed memory: nothing here asks for any.
 fn say<W: Write>(out: &mut W, line: Line, found: &[i32], from: usize) -> io::Result<()> {
     let mut page = [0u8; PAGE];
     let size = spell(line, found, from, &mut page);
@@ -81,6 +82,7 @@ fn show_commands<W: Write>(
 }
 
 // Plays a schedule and writes its lines.
+// Stays: (a) fixed memory: nothing here asks for any.
 #[tactic(auto, using(crate::proofs::Parts::opening_there, crate::proofs::Parts::file_short))]
 pub fn show<W: Write>(out: &mut W, file: &[u8]) -> io::Result<()> {
     let Some((opening, start)) = read_opening(file) else {

@@ -21,6 +21,7 @@ fn length_of(numbers: &[u32]) -> usize
 }
 
 // Writes numbers where there is room for all of them, so that no answer of `write` is a refusal.
+// Stays: (a) schedule:Writing speaks of a buffer and a place in it, and each command is written behind the last.
 #[tactic(auto, using(crate::proofs::Numbers::all_put))]
 fn put_numbers(numbers: &[u32], buffer: &mut [u8], at: usize)
     requires { at + length (spelled_all numbers.now) ≤ length buffer.old }
