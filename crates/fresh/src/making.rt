@@ -34,26 +34,8 @@ pub fn fresh_nodes(n: u32, ns: &mut [u32])
         NodeNo(1),
         NodeNo(2),
     );
-    new_node(
-        ns,
-        NodeNo(1),
-        LEAF,
-        infinite(1),
-        Phase(0),
-        None,
-        none,
-        none,
-    );
-    new_node(
-        ns,
-        NodeNo(2),
-        LEAF,
-        infinite(2),
-        Phase(0),
-        None,
-        none,
-        none,
-    );
+    new_node(ns, NodeNo(1), LEAF, infinite(1), Phase(0), None, none, none);
+    new_node(ns, NodeNo(2), LEAF, infinite(2), Phase(0), None, none, none);
 }
 
 // The dummy.
