@@ -2,8 +2,7 @@
 #![tactic(auto)]
 
 ghost use Rattle.std.specs.Prelude.{◌≡◌};
-ghost use Rattle.tables.specs.World.{world};
-ghost use Rattle.tables.specs.Fresh.{left};
+ghost use Rattle.lending.specs.Lent.{shown_world, shown_left};
 ghost use Rattle.steps.specs.Turn.{start_of};
 ghost use Rattle.beginning.specs.Starts.{holding, begun, admitted};
 ghost use Rattle.boards.specs.Boards.{worker_of};
@@ -11,6 +10,7 @@ ghost use Rattle.boards.specs.Boards.{worker_of};
 use boards::{refuse, with_worker, worker_of};
 use checking::is_sound;
 use fields::blank;
+use lending::Shown;
 use shapes::{Board, Operation, Refusal, Reply, Worker};
 
 // A worker at the beginning of its operation: found keys are counted anew, pending nodes stay.
@@ -53,18 +53,10 @@ fn admitted(board: Board, w: u32, o: Operation) -> Reply
 }
 
 // On sound tables the board alone decides.
-pub fn start(
-    board: Board,
-    w: u32,
-    o: Operation,
-    nodes: &[u32],
-    records: &[u32],
-    pending: &[u32],
-    found: &[i32],
-) -> Reply
-    ensures { left result nodes.now records.now pending.now found.now ≡ start_of (world board nodes.now records.now pending.now found.now) w o }
+pub fn start(board: Board, w: u32, o: Operation, shown: Shown<'_>) -> Reply
+    ensures { shown_left result shown.entry ≡ start_of (shown_world board shown.entry) w o }
 {
-    if !is_sound(board, nodes, records, pending, found) {
+    if !is_sound(board, shown) {
         return refuse(board, Refusal::Table);
     }
     admitted(board, w, o)

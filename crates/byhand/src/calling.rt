@@ -49,25 +49,22 @@ impl Call {
 
     // Prints what the call comes to, and hands on its board.
     fn made(self, rt: &impl Print, board: Board, lists: &mut Lists<'_>) -> Board {
-        let nodes = &mut *lists.nodes;
-        let records = &mut *lists.records;
-        let pending = &mut *lists.pending;
-        let found = &mut *lists.found;
+        let lent = &mut lists.tables;
         let keys = &mut *lists.keys;
         let reply = match self {
-            Call::Make(n, m, p) => fresh::fresh(board, n, m, p, nodes, records, pending, found),
-            Call::Insert(w, k) => start_insert(board, w, k, nodes, records, pending, found),
-            Call::Delete(w, k) => start_delete(board, w, k, nodes, records, pending, found),
-            Call::Find(w, k) => start_find(board, w, k, nodes, records, pending, found),
-            Call::Scan(w, a, b) => start_scan(board, w, a, b, nodes, records, pending, found),
-            Call::Turn(w) => machine::turn(board, w, nodes, records, pending, found),
+            Call::Make(n, m, p) => fresh::fresh(board, n, m, p, lent),
+            Call::Insert(w, k) => start_insert(board, w, k, lent.shown()),
+            Call::Delete(w, k) => start_delete(board, w, k, lent.shown()),
+            Call::Find(w, k) => start_find(board, w, k, lent.shown()),
+            Call::Scan(w, a, b) => start_scan(board, w, a, b, lent.shown()),
+            Call::Turn(w) => machine::turn(board, w, lent),
             Call::Go(w, n) => {
-                let run = machine::run(board, w, n, nodes, records, pending, found);
+                let run = machine::run(board, w, n, lent);
                 let _ = print!(rt; " = {} after {}", Told(run.outcome), run.turns);
                 return run.board;
             }
             Call::Version(phase) => {
-                let listing = lister::list(board, phase, nodes, records, pending, found, keys);
+                let listing = lister::list(board, phase, lent.shown(), keys);
                 let _ = print!(rt; " = {}", Listed { listing, keys });
                 return board;
             }

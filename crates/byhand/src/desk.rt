@@ -87,10 +87,12 @@ impl Desk {
             ..
         } = tables;
         Lists {
-            nodes: part(nodes, lent.nodes),
-            records: part(records, lent.records),
-            pending: part(pending, lent.pending),
-            found: part(found, lent.found),
+            tables: lending::Lent {
+                nodes: part(nodes, lent.nodes),
+                records: part(records, lent.records),
+                pending: part(pending, lent.pending),
+                found: part(found, lent.found),
+            },
             keys: part(keys, lent.keys),
         }
     }

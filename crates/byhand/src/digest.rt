@@ -18,9 +18,9 @@ fn stir_all(sum: u32, words: &[u32]) -> u32 {
 
 // A signed number goes in by the code by which a schedule sends it.
 pub fn of_lists(lists: &Lists<'_>) -> u32 {
-    let shared = lists.nodes.iter().chain(lists.records.iter());
-    let words = shared.chain(lists.pending.iter()).copied();
-    let keys = lists.found.iter().chain(lists.keys.iter());
+    let shared = lists.tables.nodes.iter().chain(lists.tables.records.iter());
+    let words = shared.chain(lists.tables.pending.iter()).copied();
+    let keys = lists.tables.found.iter().chain(lists.keys.iter());
     words
         .chain(keys.map(|key| groups::code(*key)))
         .fold(0, stir)

@@ -26,10 +26,7 @@ impl From<[u32; 5]> for Lent {
 // All that a call is lent.
 #[derive(Drop)]
 pub struct Lists<'a> {
-    pub nodes: &'a mut [u32],
-    pub records: &'a mut [u32],
-    pub pending: &'a mut [u32],
-    pub found: &'a mut [i32],
+    pub tables: lending::Lent<'a>,
     pub keys: &'a mut [i32],
 }
 
@@ -60,10 +57,10 @@ impl Put {
 
 impl Lists<'_> {
     fn wash(&mut self, word: u32) {
-        self.nodes.fill(word);
-        self.records.fill(word);
-        self.pending.fill(word);
-        self.found.fill(word.cast_signed());
+        self.tables.nodes.fill(word);
+        self.tables.records.fill(word);
+        self.tables.pending.fill(word);
+        self.tables.found.fill(word.cast_signed());
         self.keys.fill(word.cast_signed());
     }
 
@@ -71,9 +68,9 @@ impl Lists<'_> {
     pub fn put(&mut self, put: Put) {
         match put {
             Put::Everywhere(word) => self.wash(word),
-            Put::Node(place, word) => fields::put(self.nodes, place, word),
-            Put::Record(place, word) => fields::put(self.records, place, word),
-            Put::Pending(place, word) => fields::put(self.pending, place, word),
+            Put::Node(place, word) => fields::put(self.tables.nodes, place, word),
+            Put::Record(place, word) => fields::put(self.tables.records, place, word),
+            Put::Pending(place, word) => fields::put(self.tables.pending, place, word),
         }
     }
 }

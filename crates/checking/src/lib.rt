@@ -2,28 +2,26 @@
 #![tactic(auto)]
 
 ghost use Rattle.std.specs.Prelude.{◌≡◌};
-ghost use Rattle.tables.specs.World.{world};
+ghost use Rattle.lending.specs.Lent.{shown_world};
 ghost use Rattle.sound.specs.Sound.{sound_of};
 
 use crew::workers_ok;
 use fields::{lent_ok, sizes_ok};
+use lending::Shown;
 use rows::{dummy_ok, nodes_ok, records_ok, root_ok, used_ok};
 use shapes::Board;
 
 // 01, 'Sound means'. The rows are looked at only if the totals are in range, so that there are few.
 #[tactic(auto, unfolding(sound::specs::Sound::sound_of, laws::specs::Tests::all, laws::specs::Choice::pick))]
-pub fn is_sound(
-    board: Board,
-    nodes: &[u32],
-    records: &[u32],
-    pending: &[u32],
-    found: &[i32],
-) -> bool
-    ensures { result ≡ sound_of (world board nodes.now records.now pending.now found.now) }
+pub fn is_sound(board: Board, shown: Shown<'_>) -> bool
+    ensures { result ≡ sound_of (shown_world board shown.entry) }
 {
     let t = board.totals;
+    let nodes = shown.nodes;
+    let records = shown.records;
+    let pending = shown.pending;
     sizes_ok(t.n, t.m, t.p)
-        && lent_ok(t.n, t.m, t.p, nodes, records, pending, found)
+        && lent_ok(t.n, t.m, t.p, nodes, records, pending, shown.found)
         && used_ok(t)
         && root_ok(nodes)
         && dummy_ok(records)

@@ -4,29 +4,22 @@
 mod walk; // the walk, by levels
 
 ghost use Rattle.std.specs.Prelude.{◌≡◌};
-ghost use Rattle.tables.specs.World.{world};
+ghost use Rattle.lending.specs.Lent.{shown_world};
 ghost use Rattle.listing.specs.Listing.{list_of};
 ghost use Rattle.lister.specs.Lists.{left};
 
 use crate::walk::{Reached, walk};
 use checking::is_sound;
+use lending::Shown;
 use shapes::{Board, Phase, Refusal};
 use tables::ROOT;
 
 // 01, 'Version listing'. The first walk writes nothing: its list has no places.
 #[tactic(auto, using(crate::proofs::Whole::not_sound, crate::proofs::Whole::too_short, crate::proofs::Whole::few_nodes, crate::proofs::Whole::refused_crooked), unfolding(crate::specs::Lists::left, crate::specs::Lists::standing))]
-pub fn list(
-    board: Board,
-    i: Phase,
-    nodes: &[u32],
-    records: &[u32],
-    pending: &[u32],
-    found: &[i32],
-    keys: &mut [i32],
-) -> Result<usize, Refusal>
-    ensures { left result keys.new ≡ list_of (world board nodes.now records.now pending.now found.now) i keys.old }
+pub fn list(board: Board, i: Phase, shown: Shown<'_>, keys: &mut [i32]) -> Result<usize, Refusal>
+    ensures { left result keys.new ≡ list_of (shown_world board shown.entry) i keys.old }
 {
-    if !is_sound(board, nodes, records, pending, found) {
+    if !is_sound(board, shown) {
         return Err(Refusal::Table);
     }
     let t = board.totals;
@@ -38,7 +31,7 @@ pub fn list(
         leaves: used,
         at: 0,
     };
-    let end = walk(used, used, nodes, i, ROOT, start, &mut []).ok_or(Refusal::Crooked)?;
-    walk(used, used, nodes, i, ROOT, start, keys);
+    let end = walk(used, used, shown.nodes, i, ROOT, start, &mut []).ok_or(Refusal::Crooked)?;
+    walk(used, used, shown.nodes, i, ROOT, start, keys);
     Ok(end.at)
 }

@@ -1,25 +1,18 @@
 // A run of turns, and one turn.
 ghost use Rattle.std.specs.Prelude.{◌≡◌};
-ghost use Rattle.tables.specs.World.{world};
-ghost use Rattle.tables.specs.Fresh.{left};
+ghost use Rattle.lending.specs.Lent.{lent_world, lent_left, SameLists};
 ghost use Rattle.steps.specs.Turn.{turn_of, run_of};
-ghost use Rattle.running.specs.Loop.{ran};
+ghost use Rattle.running.specs.Loop.{lent_ran};
 
 use checking::is_sound;
+use lending::Lent;
 use running::steps;
 use shapes::{Board, Refusal, Reply, Run};
 
 // The tables are looked at once: an accepted turn keeps sound tables sound.
-pub fn run(
-    board: Board,
-    w: u32,
-    n: u32,
-    nodes: &mut [u32],
-    records: &mut [u32],
-    pending: &mut [u32],
-    found: &mut [i32],
-) -> Run
-    ensures { ran result nodes.new records.new pending.new found.new ≡ run_of n (world board nodes.old records.old pending.old found.old) w }
+pub fn run(board: Board, w: u32, n: u32, lent: &mut Lent<'_>) -> Run
+    ensures same_lists { SameLists lent.new lent.old }
+    ensures left { lent_ran result lent.new ≡ run_of n (lent_world board lent.old) w }
 {
     if n == 0 {
         return Run {
@@ -28,28 +21,22 @@ pub fn run(
             turns: 0,
         };
     }
-    if !is_sound(board, nodes, records, pending, found) {
+    if !is_sound(board, lent.shown()) {
         return Run {
             board,
             outcome: Err(Refusal::Table),
             turns: 0,
         };
     }
-    steps(board, w, n, nodes, records, pending, found)
+    steps(board, w, n, lent)
 }
 
 // A run of one.
-pub fn turn(
-    board: Board,
-    w: u32,
-    nodes: &mut [u32],
-    records: &mut [u32],
-    pending: &mut [u32],
-    found: &mut [i32],
-) -> Reply
-    ensures { left result nodes.new records.new pending.new found.new ≡ turn_of (world board nodes.old records.old pending.old found.old) w }
+pub fn turn(board: Board, w: u32, lent: &mut Lent<'_>) -> Reply
+    ensures same_lists { SameLists lent.new lent.old }
+    ensures left { lent_left result lent.new ≡ turn_of (lent_world board lent.old) w }
 {
-    let r = run(board, w, 1, nodes, records, pending, found);
+    let r = run(board, w, 1, lent);
     Reply {
         board: r.board,
         outcome: r.outcome,

@@ -7,7 +7,9 @@ use Rattle.shapes.specs.declared.Run.{Run}
 use Rattle.tables.specs.Fresh.{Left}
 use Rattle.steps.specs.Turn.{Ran}
 use Rattle.lines.specs.Page.{Page, page}
-use Rattle.outcomes.specs.Lent.{with, Lent, Shown, exit, shown, lists, all_left, all_ran, reply_back, run_back}
+use Rattle.lending.specs.declared.Lent.{Lent}
+use Rattle.lending.specs.declared.Shown.{Shown}
+use Rattle.outcomes.specs.Lent.{with, exit, shown, lists, all_left, all_ran, reply_back, run_back}
 
 -- ---- one list, or two
 
@@ -19,16 +21,20 @@ puts list = one_outcome (λ r x. (list x).now) (λ a o. o) (λ o. o) (λ a o. re
 pub fills : {K A E : Type 0} (out : E → MutBor (List ℕ)) (f : K → A → Page) → OneOutcome (λ (k : K) (a : A) (r : ℕ) (x : E). page r (out x).now ≡ f k a) (λ r x. with r (out x))
 fills out = one_outcome (λ r x. with r (out x)) (λ a o. page o.0 o.1) (λ p. (p.at, p.bytes)) (λ a o. refl)
 
--- ---- the tables: nodes, records, pending and found stand last among what a call is given
+-- ---- the tables, lent as one value
 
--- a call that may write to the tables
-pub writes : {K A E : Type 0} (tables : E → Lent) (f : K → A → Left) → OneOutcome (λ (k : K) (a : A) (r : Reply) (x : E). all_left (exit r (tables x)) ≡ f k a) (λ r x. exit r (tables x))
-writes tables = one_outcome (λ r x. exit r (tables x)) (λ a. all_left) (λ d. lists (reply_back d) d.world) (λ a o. refl)
+-- what a call leaves, where its contract says beside that it leaves the very lists that were lent
+pub beside : {K A R E O L : Type 0} (seen : R → E → O) (comes : A → O → L) (back : L → O) → ((a : A) (o : O) → back (comes a o) ≡ o) → (same : K → A → R → E → Type 0) (f : K → A → L) → OneOutcome (λ (k : K) (a : A) (r : R) (x : E). same k a r x × (comes a (seen r x) ≡ f k a)) seen
+beside seen comes back returns same f k a r q x y this that = one_outcome seen comes back returns f k a r q x y this.1 that.1
+
+-- a call that may write to them
+pub writes : {K A E : Type 0} (tables : E → MutBor Lent) (same : K → A → Reply → E → Type 0) (f : K → A → Left) → OneOutcome (λ (k : K) (a : A) (r : Reply) (x : E). same k a r x × (all_left (exit r (tables x)) ≡ f k a)) (λ r x. exit r (tables x))
+writes tables = beside (λ r x. exit r (tables x)) (λ a. all_left) (λ d. lists (reply_back d) d.world) (λ a o. refl)
 
 -- a call that only reads them: at exit they are what they were
 pub reads : {K A E : Type 0} (tables : A → Shown) (f : K → A → Left) → OneOutcome (λ (k : K) (a : A) (r : Reply) (x : E). all_left (shown r (tables a)) ≡ f k a) answer
 reads tables = one_outcome answer (λ a r. all_left (shown r (tables a))) reply_back (λ a r. refl)
 
 -- turns in a row
-pub runs : {K A E : Type 0} (tables : E → Lent) (f : K → A → Ran) → OneOutcome (λ (k : K) (a : A) (r : Run) (x : E). all_ran (exit r (tables x)) ≡ f k a) (λ r x. exit r (tables x))
-runs tables = one_outcome (λ r x. exit r (tables x)) (λ a. all_ran) (λ d. lists (run_back d) d.world) (λ a o. refl)
+pub runs : {K A E : Type 0} (tables : E → MutBor Lent) (same : K → A → Run → E → Type 0) (f : K → A → Ran) → OneOutcome (λ (k : K) (a : A) (r : Run) (x : E). same k a r x × (all_ran (exit r (tables x)) ≡ f k a)) (λ r x. exit r (tables x))
+runs tables = beside (λ r x. exit r (tables x)) (λ a. all_ran) (λ d. lists (run_back d) d.world) (λ a o. refl)

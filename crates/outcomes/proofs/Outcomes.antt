@@ -8,7 +8,7 @@ use Rattle.lister.specs.Lists as listing
 use Rattle.lister.specs.Answers.{back, comes_back}
 use Rattle.schedule.specs.Writing as writing
 use Rattle.outcomes.specs.Lent.{with, exit, lists}
-use Rattle.outcomes.proofs.Lent.{fills, writes, reads, runs}
+use Rattle.outcomes.proofs.Lent.{fills, beside, writes, reads, runs}
 use Rattle.outcomes.specs.Outcomes.{Listed, all_told, played_back}
 
 pub outcomes : Listed
@@ -23,21 +23,21 @@ outcomes = record {
   key_of_lap = one_outcome answer (λ a. told) lap.back (λ a. lap.comes_back) _;
   lap_of_key = one_outcome answer (λ a. told) lap.back (λ a. lap.comes_back) _;
   difference_of_pad = one_outcome answer (λ a. told) lap.back (λ a. lap.comes_back) _;
-  fresh = writes (λ x. x.1.1.1.1) _;
+  fresh = writes (λ x. x.1.1.1.1.0) _ _;
   is_sound = one_answer _;
-  start_insert = reads (λ a. a.1.1.1) _;
-  start_delete = reads (λ a. a.1.1.1) _;
-  start_find = reads (λ a. a.1.1.1) _;
-  start_scan = reads (λ a. a.1.1.1.1) _;
-  turn = writes (λ x. x.1.1) _;
-  run = runs (λ x. x.1.1.1) _;
-  list = one_outcome (λ r x. with r x.1.1.1.1.1.1.0) (λ a o. listing.left o.0 o.1) back (λ a o. comes_back o.0 o.1) _;
+  start_insert = reads (λ a. a.1.1.1.0) _;
+  start_delete = reads (λ a. a.1.1.1.0) _;
+  start_find = reads (λ a. a.1.1.1.0) _;
+  start_scan = reads (λ a. a.1.1.1.1.0) _;
+  turn = writes (λ x. x.1.1.0) _ _;
+  run = runs (λ x. x.1.1.1.0) _ _;
+  list = one_outcome (λ r x. with r x.1.1.1.0) (λ a o. listing.left o.0 o.1) back (λ a o. comes_back o.0 o.1) _;
   read_opening = one_answer _;
   read_command = one_answer _;
   write_opening = one_outcome (λ r x. with r x.1.0) (λ a o. writing.left o.0 o.1) (λ d. (d.answer, d.buffer)) (λ a o. refl) _;
   write_command = one_outcome (λ r x. with r x.1.0) (λ a o. writing.left o.0 o.1) (λ d. (d.answer, d.buffer)) (λ a o. refl) _;
   spell = fills (λ x. x.1.1.1.0) _;
-  play = one_outcome (λ r x. exit r x.1.1.1.1) (λ a. all_told) (λ d. lists (played_back d) d.evening.world) (λ a o. refl) _;
+  play = beside (λ r x. exit r x.1.1.1.1.0) (λ a. all_told) (λ d. lists (played_back d) d.evening.world) (λ a o. refl) _ _;
   begun = one_answer _;
   ran = one_answer _;
   no_board = one_answer _;

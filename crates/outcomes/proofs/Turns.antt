@@ -105,13 +105,13 @@ pub deciding_once : OneAnswer deciding.decide.Reads.Post
 deciding_once = one_answer _
 
 -- `turning`: one turn
-pub turning_once : OneOutcome turning.step.Reads.Post (λ r x. exit r x.1.1)
-turning_once = writes (λ x. x.1.1) _
+pub turning_once : OneOutcome turning.step.Reads.Post (λ r x. exit r x.1.1.0)
+turning_once = writes (λ x. x.1.1.0) _ _
 
 -- `running`: turns in a row
-pub running_once : OneOutcome running.steps.Reads.Post (λ r x. exit r x.1.1.1)
-running_once = runs (λ x. x.1.1.1) _
+pub running_once : OneOutcome running.steps.Reads.Post (λ r x. exit r x.1.1.1.0)
+running_once = runs (λ x. x.1.1.1.0) _ _
 
 -- `beginning`: a start of any operation
 pub beginning_once : OneAnswer beginning.start.Reads.Post
-beginning_once = reads (λ a. a.1.1.1) _
+beginning_once = reads (λ a. a.1.1.1.0) _

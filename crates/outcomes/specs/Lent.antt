@@ -1,9 +1,11 @@
 -- What is seen of a call that lists are lent to: its answer, and each list that it may write as it stands at exit.
 use Rattle.std.specs.Prelude.{ℕ, List, ℤ}
-use Rattle.std.specs.Borrow.{Bor, MutBor}
+use Rattle.std.specs.Borrow.{MutBor}
 use Rattle.shapes.specs.declared.Reply.{Reply}
 use Rattle.shapes.specs.declared.Run.{Run}
 use Rattle.tables.specs.World.{World}
+use Rattle.lending.specs.declared.Lent.{Lent}
+use Rattle.lending.specs.declared.Shown.{Shown}
 use Rattle.tables.specs.Fresh.{Left, left}
 use Rattle.steps.specs.Turn.{Ran}
 use Rattle.running.specs.Loop.{ran}
@@ -16,23 +18,16 @@ with r l = (r, l.now)
 abbrev pub with_both : {R : Type 0} → R → MutBor (List ℕ) → MutBor (List ℕ) → R × List ℕ × List ℕ
 with_both r l m = (r, l.now, m.now)
 
--- ---- the tables: nodes, records, pending and found stand last among what a call is given
-
-abbrev pub Lent : Type 0
-Lent = MutBor (List ℕ) × (MutBor (List ℕ) × (MutBor (List ℕ) × (MutBor (List ℤ) × Unit {0})))
-
--- lent to be read
-abbrev pub Shown : Type 0
-Shown = Bor (List ℕ) × (Bor (List ℕ) × (Bor (List ℕ) × (Bor (List ℤ) × Unit {0})))
+-- ---- the tables, lent as one value
 
 abbrev pub Exit : Type 0 → Type 0
 Exit R = R × List ℕ × List ℕ × List ℕ × List ℤ
 
-abbrev pub exit : {R : Type 0} → R → Lent → Exit R
-exit r l = (r, l.0.now, l.1.0.now, l.1.1.0.now, l.1.1.1.0.now)
+abbrev pub exit : {R : Type 0} → R → MutBor Lent → Exit R
+exit r l = (r, l.now.nodes.now, l.now.records.now, l.now.pending.now, l.now.found.now)
 
 abbrev pub shown : {R : Type 0} → R → Shown → Exit R
-shown r l = (r, l.0.now, l.1.0.now, l.1.1.0.now, l.1.1.1.0.now)
+shown r l = (r, l.nodes.now, l.records.now, l.pending.now, l.found.now)
 
 abbrev pub lists : {R : Type 0} → R → World → Exit R
 lists r s = (r, s.nodes, s.records, s.pending, s.found)

@@ -33,16 +33,16 @@ pub record Listed : Type 0 where
   pub lap_of_key : OneAnswer laps.lap_of_key.Reads.Post
   pub difference_of_pad : OneAnswer laps.difference_of_pad.Reads.Post
   -- tables
-  pub fresh : OneOutcome fresh.fresh.Reads.Post (λ r x. exit r x.1.1.1.1)
+  pub fresh : OneOutcome fresh.fresh.Reads.Post (λ r x. exit r x.1.1.1.1.0)
   pub is_sound : OneAnswer checking.is_sound.Reads.Post
   -- the machine
   pub start_insert : OneAnswer machine.start_insert.Reads.Post
   pub start_delete : OneAnswer machine.start_delete.Reads.Post
   pub start_find : OneAnswer machine.start_find.Reads.Post
   pub start_scan : OneAnswer machine.start_scan.Reads.Post
-  pub turn : OneOutcome machine.turn.Reads.Post (λ r x. exit r x.1.1)
-  pub run : OneOutcome machine.run.Reads.Post (λ r x. exit r x.1.1.1)
-  pub list : OneOutcome lister.list.Reads.Post (λ r x. with r x.1.1.1.1.1.1.0)
+  pub turn : OneOutcome machine.turn.Reads.Post (λ r x. exit r x.1.1.0)
+  pub run : OneOutcome machine.run.Reads.Post (λ r x. exit r x.1.1.1.0)
+  pub list : OneOutcome lister.list.Reads.Post (λ r x. with r x.1.1.1.0)
   -- schedules
   pub read_opening : OneAnswer reader.read_opening.Reads.Post
   pub read_command : OneAnswer reader.read_command.Reads.Post
@@ -51,7 +51,7 @@ pub record Listed : Type 0 where
   -- lines
   pub spell : OneOutcome spelling.spell.Reads.Post (λ r x. with r x.1.1.1.0)
   -- commands played
-  pub play : OneOutcome playing.play.Reads.Post (λ r x. exit r x.1.1.1.1)
+  pub play : OneOutcome playing.play.Reads.Post (λ r x. exit r x.1.1.1.1.0)
   pub begun : OneAnswer telling.begun.Reads.Post
   pub ran : OneAnswer telling.ran.Reads.Post
   pub no_board : OneAnswer tally.no_board.Reads.Post

@@ -3,12 +3,16 @@ use Rattle.std.specs.Prelude.{ℕ, List, Bool, true, false, ℤ, None, Some, Ok,
 use Rattle.shapes.specs.declared.Run.{Run}
 use Rattle.shapes.specs.Outcomes.{Outcome}
 use Rattle.tables.specs.World.{World, world}
+use Rattle.lending.specs.declared.Lent.{Lent}
 use Rattle.steps.specs.Turn.{Ran, run_by}
 use Rattle.turning.specs.Fits.{step_within}
 
 -- all that a run leaves
 abbrev pub ran : Run → List ℕ → List ℕ → List ℕ → List ℤ → Ran
 ran r ns rs ps fs = record { world = world r.board ns rs ps fs; outcome = r.outcome; turns = r.turns }
+
+abbrev pub lent_ran : Run → Lent → Ran
+lent_ran r l = ran r l.nodes.now l.records.now l.pending.now l.found.now
 
 -- `run_from` without the looks
 abbrev pub steps_from : ℕ → ℕ → ℕ → World → Ran

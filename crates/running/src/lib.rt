@@ -2,9 +2,10 @@
 #![tactic(auto)]
 
 ghost use Rattle.std.specs.Prelude.{◌≡◌};
-ghost use Rattle.tables.specs.World.{world};
-ghost use Rattle.running.specs.Loop.{is_going, counted, ran, steps_from};
+ghost use Rattle.lending.specs.Lent.{lent_world, SameLists};
+ghost use Rattle.running.specs.Loop.{is_going, counted, lent_ran, steps_from};
 
+use lending::Lent;
 use shapes::{Board, Outcome, Run};
 use turning::step;
 
@@ -27,20 +28,13 @@ fn counted(outcome: Outcome, turns: u32, taken: u32) -> u32
 }
 
 // Turns until an answer, a refusal or n of them.
-pub fn steps(
-    board: Board,
-    w: u32,
-    n: u32,
-    nodes: &mut [u32],
-    records: &mut [u32],
-    pending: &mut [u32],
-    found: &mut [i32],
-) -> Run
-    ensures { ran result nodes.new records.new pending.new found.new ≡ steps_from n 0 w (world board nodes.old records.old pending.old found.old) }
+pub fn steps(board: Board, w: u32, n: u32, lent: &mut Lent<'_>) -> Run
+    ensures same_lists { SameLists lent.new lent.old }
+    ensures left { lent_ran result lent.new ≡ steps_from n 0 w (lent_world board lent.old) }
 {
     let mut b = board;
     for turns in 0..n {
-        let reply = step(b, w, nodes, records, pending, found);
+        let reply = step(b, w, lent);
         let outcome = reply.outcome;
         let taken = turns + 1;
         b = reply.board;

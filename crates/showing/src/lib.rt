@@ -8,6 +8,7 @@ ghost use Rattle.schedule.specs.Numbers.{most_bytes};
 
 use fresh::fresh;
 use input::{read_all, room};
+use lending::Lent;
 use lines::Line;
 use playing::play;
 use reader::{read_command, read_opening};
@@ -23,25 +24,13 @@ use tally::{end_line, keys_place, no_board};
 struct Evening<'a> {
     board: Board,
     turns: [u64; 8],
-    nodes: &'a mut [u32],
-    records: &'a mut [u32],
-    pending: &'a mut [u32],
-    found: &'a mut [i32],
+    lent: Lent<'a>,
 }
 
 impl Evening<'_> {
     // Plays a command, and hands on what there is to print.
     fn play(&mut self, number: u32, command: Command) -> Line {
-        let played = play(
-            number,
-            command,
-            self.board,
-            self.turns,
-            self.nodes,
-            self.records,
-            self.pending,
-            self.found,
-        );
+        let played = play(number, command, self.board, self.turns, &mut self.lent);
         let turns = played.turns;
         self.turns = turns;
         self.board = played.board;
@@ -75,7 +64,7 @@ fn show_commands<W: Write>(
         };
         let line = evening.play(number, command);
         let from = keys_place(evening.board.totals, line);
-        say(out, line, evening.found, from)?;
+        say(out, line, evening.lent.found, from)?;
         rest = &rest[taken..];
     }
     say(out, end_line(number, evening.board.totals), &[], 0)
@@ -92,23 +81,17 @@ pub fn show<W: Write>(out: &mut W, file: &[u8]) -> io::Result<()> {
     let mut records = [0u32; 11_264];
     let mut pending = [0u32; 8_192];
     let mut found = [0i32; 8_192];
-    let begun = fresh(
-        no_board(),
-        opening.n,
-        opening.m,
-        opening.p,
-        &mut nodes,
-        &mut records,
-        &mut pending,
-        &mut found,
-    );
-    let mut evening = Evening {
-        board: begun.board,
-        turns: [0; 8],
+    let mut lent = Lent {
         nodes: &mut nodes,
         records: &mut records,
         pending: &mut pending,
         found: &mut found,
+    };
+    let begun = fresh(no_board(), opening.n, opening.m, opening.p, &mut lent);
+    let mut evening = Evening {
+        board: begun.board,
+        turns: [0; 8],
+        lent,
     };
     show_commands(out, &file[start..], &mut evening)
 }

@@ -1,5 +1,6 @@
 -- What a turn asks: the totals are within the sizes, the worker's counts are small.
-use Rattle.std.specs.Prelude.{Option, Some}
+use Rattle.std.specs.Prelude.{Option, None, Some}
+use Rattle.std.proofs.Common.{subst}
 use Prim.Native.Nat.{ℕ, ◌<◌, ◌≤◌}
 use native.Mathlib.Omega.{arith}
 use mathlib.Core.Path.{◌≡◌, refl, ap₂}
@@ -7,12 +8,13 @@ use mathlib.Core.Bool.{true}
 use mathlib.Core.Logic.{◌⊎◌, inl, inr}
 use Rattle.shapes.specs.Numbers.{most_n}
 use Rattle.tables.specs.World.{World, tables_of}
-use Rattle.tables.specs.Fresh.{Left}
+use Rattle.tables.specs.Fresh.{Left, refused}
+use Rattle.shapes.specs.declared.Refusal.TheVariants as refusal
 use Rattle.shapes.specs.declared.Board.{Board}
 use Rattle.shapes.specs.declared.Worker.{Worker}
 use Rattle.shapes.specs.declared.Operation.{Operation}
 use Rattle.shapes.specs.declared.Step.{Step}
-use Rattle.shapes.specs.Outcomes.{Outcome}
+use Rattle.shapes.specs.Outcomes.{Outcome, Decision}
 use Rattle.steps.specs.Decide.{decide}
 use Rattle.steps.specs.Turn.{lists_of, settled, settle, outcome_of, step_on}
 use Rattle.effects.specs.Sizes.{WithinSizes}
@@ -35,3 +37,12 @@ left_same e f = ap₂ (λ (s : World) (o : Outcome). record { world = s; outcome
 pub goes_on : (s : World) (w : ℕ) (k : Worker) (q : Option Operation) (o : Operation) (d : Step) → q ≡ Some o → decide (tables_of s) (lists_of s w k) o k.hand ≡ Some d → step_on s w k q ≡ record { world = settled s w k o d; outcome = outcome_of d.next }
 unfolding step_on settle
 goes_on s w k q o d e f = rw (e, f) refl
+
+-- and one whose decision is crooked
+pub is_crooked : (s : World) (w : ℕ) (k : Worker) (q : Option Operation) (o : Operation) → q ≡ Some o → decide (tables_of s) (lists_of s w k) o k.hand ≡ None → step_on s w k q ≡ refused s refusal.Crooked
+unfolding step_on settle
+is_crooked s w k q o e f = rw (e, f) refl
+
+-- what is decided on lists that are read is decided on the lists that are lent
+pub decided_on : (t s : World) (w : ℕ) (k : Worker) (o : Operation) (e : Decision) → t ≡ s → decide (tables_of t) (lists_of t w k) o k.hand ≡ e → decide (tables_of s) (lists_of s w k) o k.hand ≡ e
+decided_on t s w k o e same f = let P : World → Type 0 = λ u. decide (tables_of u) (lists_of u w k) o k.hand ≡ e in subst P same f

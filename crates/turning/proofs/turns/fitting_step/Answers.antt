@@ -7,9 +7,9 @@ use Rattle.steps.specs.Turn.{step_of}
 use Rattle.turning.proofs.Fits.{turn_fits}
 use Rattle.turning.proofs.turns.fitting_step.Goals as goal
 
-pub returns-then-board-w : goal.returns-then-board-w
+pub returns-then-board-w-clause-left : goal.returns-then-board-w-clause-left
 unfolding step_of pick
-returns-then-board-w c = rw (le-ltb _ _ c.if-board-w.true, c.refuse.ensures) refl
+returns-then-board-w-clause-left c = rw (le-ltb _ _ c.if-board-w.true, c.refuse.ensures) refl
 
 pub step_on-requires : goal.step_on-requires
 unfolding worker_at
@@ -21,6 +21,6 @@ step_on-requires c =
       found_le_most_n = rw c.worker_of-k.ensures enough.1.1;
     }
 
-pub returns : goal.returns
+pub returns-clause-left : goal.returns-clause-left
 unfolding step_of pick worker_at
-returns c = rw (lt-ltb _ _ c.if-board-w.false, ← c.worker_of-k.ensures) c.step_on.ensures
+returns-clause-left c = rw (lt-ltb _ _ c.if-board-w.false, ← c.worker_of-k.ensures) c.step_on.ensures.left
