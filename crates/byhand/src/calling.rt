@@ -2,6 +2,7 @@
 use crate::digest::{of_board, of_lists};
 use crate::lists::Lists;
 use crate::telling::{Left, Listed, Told, say};
+use lending::Sizes;
 use machine::{start_delete, start_find, start_insert, start_scan};
 use shapes::{Board, Phase};
 use tables::MOST_WORKERS;
@@ -52,7 +53,7 @@ impl Call {
         let lent = &mut lists.tables;
         let keys = &mut *lists.keys;
         let reply = match self {
-            Call::Make(n, m, p) => fresh::fresh(board, n, m, p, lent),
+            Call::Make(n, m, p) => fresh::fresh(board, Sizes { n, m, p }, lent),
             Call::Insert(w, k) => start_insert(board, w, k, lent.shown()),
             Call::Delete(w, k) => start_delete(board, w, k, lent.shown()),
             Call::Find(w, k) => start_find(board, w, k, lent.shown()),

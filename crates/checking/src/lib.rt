@@ -7,7 +7,7 @@ ghost use Rattle.sound.specs.Sound.{sound_of};
 
 use crew::workers_ok;
 use fields::{lent_ok, sizes_ok};
-use lending::Shown;
+use lending::{Shown, Sizes};
 use rows::{dummy_ok, nodes_ok, records_ok, root_ok, used_ok};
 use shapes::Board;
 
@@ -19,13 +19,17 @@ pub fn is_sound(board: Board, shown: Shown<'_>) -> bool
     let t = board.totals;
     let nodes = shown.nodes;
     let records = shown.records;
-    let pending = shown.pending;
-    sizes_ok(t.n, t.m, t.p)
-        && lent_ok(t.n, t.m, t.p, nodes, records, pending, shown.found)
+    let sizes = Sizes {
+        n: t.n,
+        m: t.m,
+        p: t.p,
+    };
+    sizes_ok(sizes)
+        && lent_ok(sizes, shown)
         && used_ok(t)
         && root_ok(nodes)
         && dummy_ok(records)
         && nodes_ok(t, nodes)
         && records_ok(t, nodes, records)
-        && workers_ok(board, records, pending)
+        && workers_ok(board, records, shown.pending)
 }

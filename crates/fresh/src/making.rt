@@ -5,6 +5,7 @@ ghost use Rattle.tables.specs.Fresh.{fresh_nodes, fresh_records, fresh_board};
 
 use crate::clearing::clear;
 use fields::{idle, new_node, new_record, unfilled};
+use lending::Sizes;
 use shapes::{Board, NodeNo, Phase, Rank, Totals};
 use tables::{
     ABORT, DUMMY, FRESH_NODES, FRESH_RECORDS, INTERNAL, LEAF, NODE_WIDTH, RECORD_WIDTH, ROOT,
@@ -50,19 +51,19 @@ pub fn fresh_records(m: u32, rs: &mut [u32])
 }
 
 #[tactic(auto, unfolding(tables::specs::Fresh::fresh_board))]
-pub fn fresh_board(n: u32, m: u32, p: u32, board: Board) -> Board
-    requires { p ≤ 8 }
-    ensures { result ≡ fresh_board n m p board }
+pub fn fresh_board(sizes: Sizes, board: Board) -> Board
+    requires { sizes.p ≤ 8 }
+    ensures { result ≡ fresh_board sizes.n sizes.m sizes.p board }
 {
     let totals = Totals {
-        n,
-        m,
-        p,
+        n: sizes.n,
+        m: sizes.m,
+        p: sizes.p,
         nodes: FRESH_NODES,
         records: FRESH_RECORDS,
         counter: 0,
     };
     let mut workers = board.workers;
-    clear(&mut workers, p as usize, idle());
+    clear(&mut workers, sizes.p as usize, idle());
     Board { totals, workers }
 }

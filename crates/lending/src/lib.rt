@@ -1,8 +1,7 @@
-// The lists that a caller lends with a board, as one value.
+// What a caller lends with a board, and how large he asks the tables to be, each as one value.
 #![tactic(auto)]
 
 ghost use Rattle.std.specs.Prelude.{◌≡◌};
-ghost use Rattle.tables.specs.World.{world};
 ghost use Rattle.lending.specs.Lent.{lent_world, shown_world};
 ghost use Rattle.shapes.specs.declared.Board.{Board};
 
@@ -22,6 +21,14 @@ pub struct Shown<'a> {
     pub records: &'a [u32],
     pub pending: &'a [u32],
     pub found: &'a [i32],
+}
+
+// N, M and P: how many nodes, records and workers.
+#[derive(Clone, Copy, Debug, PartialEq, Eq)]
+pub struct Sizes {
+    pub n: u32,
+    pub m: u32,
+    pub p: u32,
 }
 
 impl Lent<'_> {

@@ -33,7 +33,7 @@ pub record Listed : Type 0 where
   pub lap_of_key : OneAnswer laps.lap_of_key.Reads.Post
   pub difference_of_pad : OneAnswer laps.difference_of_pad.Reads.Post
   -- tables
-  pub fresh : OneOutcome fresh.fresh.Reads.Post (λ r x. exit r x.1.1.1.1.0)
+  pub fresh : OneOutcome fresh.fresh.Reads.Post (λ r x. exit r x.1.1.0)
   pub is_sound : OneAnswer checking.is_sound.Reads.Post
   -- the machine
   pub start_insert : OneAnswer machine.start_insert.Reads.Post

@@ -7,7 +7,8 @@ ghost use Rattle.schedule.specs.Reading.{numbers_at, opening_at, command_of, com
 
 use fields::sizes_ok;
 use groups::signed;
-use schedule::{Command, DELETE, FIND, INSERT, MOST_BYTES, Opening, SCAN, TURNS};
+use lending::Sizes;
+use schedule::{Command, DELETE, FIND, INSERT, MOST_BYTES, SCAN, TURNS};
 use unpack::read;
 
 // Three numbers, each read from the front of what the one before it left, and where the rest begins.
@@ -25,18 +26,19 @@ fn read_three(rest: &[u8]) -> Option<([u32; 3], usize)>
 
 // N, M, P at the front of the whole file, and where the commands begin.
 #[tactic(auto, using(crate::proofs::Sizes::by_sizes))]
-pub fn read_opening(file: &[u8]) -> Option<(Opening, usize)>
+pub fn read_opening(file: &[u8]) -> Option<(Sizes, usize)>
     ensures { result ≡ opening_at file.now }
 {
     if MOST_BYTES < file.len() {
         return None;
     }
-    let (sizes, end) = read_three(file)?;
-    let [n, m, p] = sizes;
-    if !sizes_ok(n, m, p) {
+    let (numbers, end) = read_three(file)?;
+    let [n, m, p] = numbers;
+    let sizes = Sizes { n, m, p };
+    if !sizes_ok(sizes) {
         return None;
     }
-    Some((Opening { n, m, p }, end))
+    Some((sizes, end))
 }
 
 // The command that these numbers are; b counts for a scan only, and no turns are a fault.

@@ -26,14 +26,6 @@ pub enum Command {
     Turns(u32, u32),
 }
 
-// The sizes that a schedule opens with.
-#[derive(Clone, Copy, Debug, PartialEq, Eq)]
-pub struct Opening {
-    pub n: u32,
-    pub m: u32,
-    pub p: u32,
-}
-
 // Why nothing was written.
 #[derive(Clone, Copy, Debug, PartialEq, Eq)]
 pub enum Refusal {

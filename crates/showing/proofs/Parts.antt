@@ -1,7 +1,7 @@
 -- What reads at the front of some bytes stands within them, and so does a line on its page.
 use Rattle.std.proofs.Common.{◌≡◌, ℕ, ◌≤◌, List, length, sym, Some}
 use Rattle.schedule.specs.declared.Command.{Command}
-use Rattle.schedule.specs.declared.Opening.{Opening}
+use Rattle.lending.specs.declared.Sizes.{Sizes}
 use Rattle.schedule.specs.Reading.{command_at, opening_at}
 use Rattle.schedule.specs.Numbers.{most_bytes}
 use Rattle.schedule.specs.Openings.{opening_opens}
@@ -15,7 +15,7 @@ module _ (s : List ℕ) (c : Command) (taken : ℕ) (reads : Some (c, taken) ≡
   pub command_there : taken ≤ length s
   command_there = (command_stands s c taken (sym reads)).there
 
-module _ (s : List ℕ) (o : Opening) (start : ℕ) (reads : Some (o, start) ≡ opening_at s) where
+module _ (s : List ℕ) (o : Sizes) (start : ℕ) (reads : Some (o, start) ≡ opening_at s) where
   pub opening_there : start ≤ length s
   opening_there = (opening_opens s o.n o.m o.p start (sym reads)).there
 

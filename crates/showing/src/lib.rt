@@ -74,7 +74,7 @@ fn show_commands<W: Write>(
 // Stays: (a) fixed memory: nothing here asks for any.
 #[tactic(auto, using(crate::proofs::Parts::opening_there, crate::proofs::Parts::file_short))]
 pub fn show<W: Write>(out: &mut W, file: &[u8]) -> io::Result<()> {
-    let Some((opening, start)) = read_opening(file) else {
+    let Some((sizes, start)) = read_opening(file) else {
         return say(out, Line::Bad(0), &[], 0);
     };
     let mut nodes = [0u32; 10_240];
@@ -87,7 +87,7 @@ pub fn show<W: Write>(out: &mut W, file: &[u8]) -> io::Result<()> {
         pending: &mut pending,
         found: &mut found,
     };
-    let begun = fresh(no_board(), opening.n, opening.m, opening.p, &mut lent);
+    let begun = fresh(no_board(), sizes, &mut lent);
     let mut evening = Evening {
         board: begun.board,
         turns: [0; 8],

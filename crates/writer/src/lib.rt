@@ -9,7 +9,8 @@ ghost use Rattle.schedule.specs.Writing.{left, entered, write_opening, write_com
 
 use fields::sizes_ok;
 use groups::code;
-use schedule::{Command, DELETE, FIND, INSERT, MOST_BYTES, Opening, Refusal, SCAN, TURNS};
+use lending::Sizes;
+use schedule::{Command, DELETE, FIND, INSERT, MOST_BYTES, Refusal, SCAN, TURNS};
 
 // How many bytes the numbers of an opening or a command take.
 #[tactic(auto, using(crate::proofs::Numbers::lengths))]
@@ -53,14 +54,13 @@ fn enter(numbers: &[u32], buffer: &mut [u8], at: usize) -> Result<usize, Refusal
 
 // Writes N, M, P, and says where they end.
 #[tactic(auto, using(crate::proofs::Numbers::by_sizes))]
-pub fn write_opening(opening: Opening, buffer: &mut [u8], at: usize) -> Result<usize, Refusal>
-    ensures { left result buffer.new ≡ write_opening opening.n opening.m opening.p buffer.old at }
+pub fn write_opening(sizes: Sizes, buffer: &mut [u8], at: usize) -> Result<usize, Refusal>
+    ensures { left result buffer.new ≡ write_opening sizes.n sizes.m sizes.p buffer.old at }
 {
-    let Opening { n, m, p } = opening;
-    if !sizes_ok(n, m, p) {
+    if !sizes_ok(sizes) {
         return Err(Refusal::File);
     }
-    enter(&[n, m, p], buffer, at)
+    enter(&[sizes.n, sizes.m, sizes.p], buffer, at)
 }
 
 // Writes a command, and says where it ends; n turns are at least 1.
