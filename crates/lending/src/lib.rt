@@ -2,7 +2,6 @@
 #![tactic(auto)]
 
 ghost use Rattle.std.specs.Prelude.{◌≡◌};
-ghost use Rattle.tables.specs.World.{world};
 ghost use Rattle.lending.specs.Lent.{lent_world, shown_world};
 ghost use Rattle.shapes.specs.declared.Board.{Board};
 

@@ -1,7 +1,7 @@
 -- The run's loop: what is left of it after t turns, by what the next turn comes to.
 use Rattle.std.specs.Prelude.{None, Some, Ok, Err}
 use Rattle.shapes.specs.Outcomes.{Outcome}
-use Prim.Native.Nat.{ℕ, suc, ◌+◌, ◌-◌, ◌<◌, ◌≤◌}
+use Prim.Native.Nat.{ℕ, suc, ◌+◌, ◌-◌, ◌<◌}
 use native.Mathlib.Omega.{arith}
 use mathlib.Core.Path.{◌≡◌, refl, sym, ◌∙◌}
 use mathlib.Core.Bool.{true, false, true≢false, false≢true}
