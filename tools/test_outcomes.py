@@ -14,9 +14,6 @@ CRATES = pathlib.Path(__file__).resolve().parent.parent / "crates"
 # What they write, or read, no contract says (docs/DECISIONS.md, 36).
 WITHOUT_EQUATION = {"input", "showing"}
 
-# The tables stand last among what a call is given, and are seen together: nodes, records, pending, found.
-TABLES = 4
-
 
 def exported(crate):
     """Each function that a library hands out, as (the crate that has it, its name)."""
@@ -26,6 +23,8 @@ def exported(crate):
     for first, names in re.findall(r"^pub use (\w+)::(\{[^}]*\}|\w+);", text, re.M):
         handed_on += [(first, name) for name in re.findall(r"\b[a-z]\w*", names)]
     own = {(crate, name) for name in re.findall(r"^pub fn (\w+)", text, re.M)}
+    for of, body in re.findall(r"^impl (\w+)[^{]*\{\n(.*?)^\}", text, re.M | re.S):
+        own |= {(crate, f"{of}.{name}") for name in re.findall(r"^    pub fn (\w+)", body, re.M)}
     return own | {(crate if first in modules else first, name) for first, name in handed_on}
 
 
@@ -36,22 +35,18 @@ def libraries():
 def listed():
     """Each function whose contract outcomes cites, with what it sees of a call: (crate, name, the rest of the line)."""
     texts = "".join(p.read_text() for folder in ("specs", "proofs") for p in (CRATES / "outcomes" / folder).glob("*.antt"))
-    return re.findall(r"(\w+)\.(\w+)\.Reads\.Post(.*)", texts)
+    return re.findall(r"\b([a-z]\w*)\.((?:[A-Z]\w*\.)?[a-z]\w*)\.Reads\.Post(.*)", texts)
 
 
 def seen(text):
-    """The places of the lists that a line names: `x.1.1.0` is the third that a call is given, all behind it if no `.0` follows."""
-    places = set()
-    for steps, one in re.findall(r"\bx((?:\.1)*)(\.0)?", text.partition(" x. ")[2]):
-        first = steps.count(".1")
-        places |= {first} if one else set(range(first, first + TABLES))
-    return places
+    """The places of the lists that a line names: `x.1.1.0` is the third that a call is given. All that is lent is one of them."""
+    return {steps.count(".1") for steps in re.findall(r"\bx((?:\.1)*)\.0", text.partition(" x. ")[2])}
 
 
 def written(crate, name):
     """The places of a function's parameters that it may write."""
     texts = "".join(p.read_text() for p in (CRATES / crate / "src").glob("*.rt"))
-    (parameters,) = re.findall(rf"^pub fn {name}(?:<[^<>]*>)?\(([^()]*)\)", texts, re.M)
+    (parameters,) = re.findall(rf"^ *pub fn {name.split('.')[-1]}(?:<[^<>]*>)?\(([^()]*)\)", texts, re.M)
     given = [p for p in re.split(r",(?![^\[]*\])", parameters) if p.strip()]
     return {at for at, parameter in enumerate(given) if "&mut" in parameter}
 

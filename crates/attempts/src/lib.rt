@@ -21,7 +21,7 @@ fn reaches182(v: Locals, gp: Option<NodeNo>) -> Decision
     }
 }
 
-// Stays: (d) the cases are closed and each is met here alone: a function for each would be a table in place of this match.
+// Stays: (d) the cases are those of an enum: a function for each would be a table in place of this match.
 #[tactic(auto, unfolding(steps::specs::Attempt::validated, laws::specs::Choice::pick))]
 fn validated(t: Shared<'_>, kind: Kind, k: Key, v: Locals) -> Decision
     ensures { result ≡ validated t.entry.totals t.entry.nodes.now kind k v }

@@ -34,7 +34,7 @@ use std::io::Read;
 const MOST: usize = 65_536;
 
 // Reads to the end, or until the buffer is full. A read that fails is an end too: what came before is played.
-// Stays: (d) the count: read_exact does not say how much came, and read_to_end asks for memory, which may fail.
+// Stays: (d) the count, and a read that fails is an end: read_exact does not say how much came, and read_to_end asks for memory, which may fail.
 fn read_full<'a, R: Read>(from: &mut R, buffer: &'a mut [u8]) -> &'a [u8] {
     let mut done = 0;
     while let Ok(came @ 1..) = from.read(&mut buffer[done..]) {
@@ -53,6 +53,7 @@ fn play(rt: &impl Print, script: &[u8]) {
     }
 }
 
+// Stays: (a) fixed memory: asking for any could fail where this does not.
 fn main(rt: HostRuntime) {
     let mut script = [0; MOST];
     play(&rt, read_full(&mut rt.stdin(), &mut script));

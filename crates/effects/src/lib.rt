@@ -16,7 +16,7 @@ use shapes::{Effect, Totals};
 use tables::{DELETE_TAKES, INSERT_TAKES, UNDECIDED};
 pub use totals::within;
 
-// Stays: (d) the cases are closed and each is met here alone: a function for each would be a table in place of this match.
+// Stays: (d) the cases are those of an enum: a function for each would be a table in place of this match.
 #[tactic(auto, unfolding(steps::specs::Apply::apply))]
 fn carried_out(e: Effect, totals: Totals, nodes: &mut [u32], records: &mut [u32]) -> Totals
     requires { WithinSizes totals }
@@ -54,6 +54,7 @@ fn carried_out(e: Effect, totals: Totals, nodes: &mut [u32], records: &mut [u32]
     }
 }
 
+// Stays: (d) it writes nodes and records and answers totals: what goes in and what comes out are not one value.
 // Totals beyond the sizes are never those of sound tables; nothing is written for them.
 pub fn apply(e: Effect, totals: Totals, nodes: &mut [u32], records: &mut [u32]) -> Totals
     ensures { tables result nodes.new records.new ≡ apply_within e (tables totals nodes.old records.old) }

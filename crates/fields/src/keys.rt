@@ -1,5 +1,5 @@
 // A key as a number that keeps the order of keys, and back.
-// Stays: an `impl From` would have to stand with Key in `shapes`, below the definitions promised here (tables:Names), and a call would read no plainer.
+// Stays: (d) an `impl From` would have to stand with Key in `shapes`, below the definitions promised here, and a call would read no plainer.
 ghost use Rattle.std.specs.Prelude.{◌≡◌};
 ghost use Rattle.tables.specs.Names.{key_of, number_of};
 

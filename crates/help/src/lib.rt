@@ -51,7 +51,7 @@ pub fn help_of(t: Shared<'_>, r: RecordNo, i: u32, b: HelpStep) -> Option<HelpMo
     }
 }
 
-// Stays: (d) the cases are closed and each is met here alone: a function for each would be a table in place of this match.
+// Stays: (d) the cases are those of an enum: a function for each would be a table in place of this match.
 #[tactic(auto, unfolding(steps::specs::Help::back_to, laws::specs::Choice::pick))]
 fn back_to(b: Back, v: Locals, done: bool) -> Decision
     ensures { result ≡ back_to b v done }

@@ -38,7 +38,7 @@ const PAYLOAD: usize = 2;
 const SECOND: usize = 6;
 
 // A kind that is not known, or a count that is too large, is shown as `?` and the kind's number.
-// Stays: (d) the cases are closed and each is met here alone: a function for each would be a table in place of this match.
+// Stays: (d) the letters are the format's: a function for each would be a table in place of this match.
 fn show_row(rt: &impl Print, row: &[u8; ROW]) {
     let kind = row[0];
     let count = row[1] as usize;

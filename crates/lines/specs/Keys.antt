@@ -1,5 +1,5 @@
 -- The keys of a found list, one by one, and in the line of their answer.
-use Rattle.std.specs.Prelude.{◌≡◌, refl, List, ◌∷◌, ◌++◌, map, ℕ, zero, suc, ◌+◌, ℤ, pos, get_or}
+use Rattle.std.specs.Prelude.{◌≡◌, refl, List, ◌∷◌, ◌++◌, map, ℕ, zero, suc, ◌+◌, ◌-◌, ◌≤◌, ℤ, pos, get_or}
 use Rattle.std.proofs.Common.{arith, add-one, append-nil, append_assoc}
 use Rattle.shapes.specs.declared.Answer.{Answer}
 use Rattle.shapes.specs.declared.Answer.TheVariants.{Yes, No, Keys, NoRoom, NoPhase}
@@ -16,9 +16,14 @@ one_more_key found from (suc i) =
     let here : suc from + i ≡ from + suc i = omega arith in
     rw (one_more_key found (suc from) i, here, append_assoc)
 
-pub fill_no_keys : (found : List ℤ) (from : ℕ) (p : Page) → fill (keys_text found from 0) p ≡ p
+pub fill_zero_keys : (found : List ℤ) (from : ℕ) (p : Page) → fill (keys_text found from 0) p ≡ p
 unfolding keys_at spaced fill
-fill_no_keys found from p = refl
+fill_zero_keys found from p = refl
+
+-- nothing is left of n keys from the n-th on
+pub fill_no_keys : (found : List ℤ) (from n i : ℕ) (p : Page) → n ≤ i → fill (keys_text found (from + i) (n - i)) p ≡ p
+unfolding keys_at spaced fill
+fill_no_keys found from n i p h = let none : n - i ≡ 0 = omega arith in rw none
 
 pub fill_one_more_key : (found : List ℤ) (from i : ℕ) (p : Page) → fill (keys_text found from (i + 1)) p ≡ fill (blank ∷ signed (get_or found (from + i) (pos 0))) (fill (keys_text found from i) p)
 fill_one_more_key found from i p = rw (add-one, one_more_key found from i) (fill-append (keys_text found from i) _ p)

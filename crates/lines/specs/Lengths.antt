@@ -1,5 +1,5 @@
 -- How long a line can be: it fits its page.
-use Rattle.std.specs.Prelude.{◌≡◌, refl, List, [], ◌∷◌, ◌++◌, ℕ, suc, ◌+◌, ◌*◌, ◌≤◌, ◌<◌, ℤ, pos, negsuc, length, get_or}
+use Rattle.std.specs.Prelude.{◌≡◌, refl, List, [], ◌∷◌, ◌++◌, ℕ, suc, ◌+◌, ◌*◌, ◌-◌, ◌≤◌, ◌<◌, ℤ, pos, negsuc, length, get_or}
 use Rattle.std.proofs.Common.{arith, add-one, length-append, SFits}
 use Rattle.std.specs.Int.{w32}
 use Rattle.shapes.specs.Numbers.{refusal_number}
@@ -57,9 +57,14 @@ one_more_length found from i f =
     let key = get_or found (from + i) (pos 0) in
     rw (add-one, one_more_key found from i, length-append (keys_text found from i) (blank ∷ signed key)) (omega (arith, key-short key f))
 
-pub no_keys_length : (found : List ℤ) (from : ℕ) → length (keys_text found from 0) ≡ 0
+pub zero_keys_length : (found : List ℤ) (from : ℕ) → length (keys_text found from 0) ≡ 0
 unfolding keys_at spaced
-no_keys_length found from = refl
+zero_keys_length found from = refl
+
+-- nothing is left of n keys from the n-th on
+pub no_keys_length : (found : List ℤ) (from n i : ℕ) → n ≤ i → length (keys_text found (from + i) (n - i)) ≡ 0
+unfolding keys_at spaced
+no_keys_length found from n i h = let none : n - i ≡ 0 = omega arith in rw none
 
 few_listed : (answer : Answer) → listed_of answer ≤ most_keys
 unfolding listed_of

@@ -1,6 +1,6 @@
 // A page that is written from its start: bytes, texts and numbers, each at the place where the last one ended.
 // On a full page nothing changes, so that no caller has to count.
-// Stays: (a) outcomes:Pages.lines-once takes contracts of one equation; a struct that held `out` and `at` would owe its ghost name too.
+// Stays: (d) as methods of a struct of both, each would promise besides that the page is the one lent (as lending's calls do), and its callers hand a place on anyway.
 ghost use Rattle.std.specs.Prelude.{◌≡◌, [], ◌∷◌};
 ghost use Rattle.lines.specs.Text.{blank, decimal, signed};
 ghost use Rattle.lines.specs.Page.{page, fill};

@@ -33,7 +33,7 @@ fn held(t: Shared<'_>, v: Locals, a: Link) -> Decision
     }
 }
 
-// Stays: (d) the cases are closed and each is met here alone: a function for each would be a table in place of this match.
+// Stays: (d) the cases are those of an enum: a function for each would be a table in place of this match.
 #[tactic(auto, unfolding(steps::specs::Attempt::link_next))]
 fn link_next(t: Shared<'_>, v: Locals, a: Link, m: Option<LinkMove>) -> Decision
     ensures { result ≡ link_next t.entry.totals t.entry.nodes.now v a m }

@@ -54,7 +54,7 @@ pub fn rank_at(ns: &[u32], x: NodeNo) -> Rank
 }
 
 // The order of ranks as an order of numbers.
-// Stays: (d) a derived Ord would answer the same, but the tests of the report compare a finite key of 32 bits with a rank.
+// Stays: (a) `key_value` and `key_at` promise this number (tables:Names.value), which the definitions compare with a finite key.
 #[tactic(auto, unfolding(tables::specs::Names::value))]
 pub fn key_value(k: Rank) -> u64
     ensures { result ≡ value k }

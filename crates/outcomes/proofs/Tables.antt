@@ -10,6 +10,8 @@ use Rattle.tables.specs.World.{tables}
 use Rattle.tally.specs.Whole.{lent}
 use Rattle.outcomes.specs.Lent.{with_both}
 use Rattle.outcomes.proofs.Lent.{puts}
+use Rattle.lending.proofs as lending
+use Rattle.lending.specs.Lent.{shown_world}
 use Rattle.words.proofs as words
 use Rattle.nodes.proofs as nodes
 use Rattle.records.proofs as records
@@ -65,6 +67,10 @@ pub records-once :
     OneAnswer records.state_at.Reads.Post ×
     OneAnswer records.unfilled.Reads.Post
 records-once = (one_answer _, one_answer _, one_answer _, one_answer _, one_answer _, one_answer _, one_answer _, one_answer _, one_answer _, puts (λ x. x.0) _, one_answer _, one_answer _)
+
+-- `lending`: what is shown of what is lent, with whatever board
+pub lending_once : OneOutcome lending.Lent.shown.Reads.Post (λ r x. shown_world lent.board r)
+lending_once k a r q x y this that = this lent.board ∙ sym (that lent.board)
 
 -- `fields`: READCHILD, keys, sizes, a worker that holds nothing
 pub fields-once :

@@ -1,6 +1,6 @@
 -- Every exported function on the way to a turn, a run and a start: each has one outcome.
 use Rattle.laws.specs.Outcomes.{OneOutcome, OneAnswer, one_answer}
-use Rattle.outcomes.specs.Lent.{exit}
+use Rattle.outcomes.specs.Lent.{exit_named}
 use Rattle.outcomes.proofs.Lent.{writes, reads, runs}
 use Rattle.hand.proofs as hand
 use Rattle.seek.proofs as seek
@@ -105,12 +105,12 @@ pub deciding_once : OneAnswer deciding.decide.Reads.Post
 deciding_once = one_answer _
 
 -- `turning`: one turn
-pub turning_once : OneOutcome turning.step.Reads.Post (λ r x. exit r x.1.1.0)
-turning_once = writes (λ x. x.1.1.0) _ _
+pub turning_once : OneOutcome turning.step.Reads.Post (λ r x. exit_named r x.1.1.0)
+turning_once = writes (λ a. a.1.1.0) (λ x. x.1.1.0) _
 
 -- `running`: turns in a row
-pub running_once : OneOutcome running.steps.Reads.Post (λ r x. exit r x.1.1.1.0)
-running_once = runs (λ x. x.1.1.1.0) _ _
+pub running_once : OneOutcome running.steps.Reads.Post (λ r x. exit_named r x.1.1.1.0)
+running_once = runs (λ a. a.1.1.1.0) (λ x. x.1.1.1.0) _
 
 -- `beginning`: a start of any operation
 pub beginning_once : OneAnswer beginning.start.Reads.Post

@@ -1,4 +1,5 @@
--- What is seen of a call that lists are lent to: its answer, and each list that it may write as it stands at exit.
+-- What is seen of a call that lists are lent to: its answer, each list that it may write as it stands at exit, and whose lists they are.
+use base.Fml.{GName}
 use Rattle.std.specs.Prelude.{ℕ, List, ℤ}
 use Rattle.std.specs.Borrow.{MutBor}
 use Rattle.shapes.specs.declared.Reply.{Reply}
@@ -25,6 +26,16 @@ Exit R = R × List ℕ × List ℕ × List ℕ × List ℤ
 
 abbrev pub exit : {R : Type 0} → R → MutBor Lent → Exit R
 exit r l = (r, l.now.nodes.now, l.now.records.now, l.now.pending.now, l.now.found.now)
+
+-- the names that the logic has for the four loans, which say whose lists they are
+abbrev pub Names : Type 0
+Names = GName × GName × GName × GName
+
+abbrev pub names : Lent → Names
+names l = (l.nodes.ghost_name, l.records.ghost_name, l.pending.ghost_name, l.found.ghost_name)
+
+abbrev pub exit_named : {R : Type 0} → R → MutBor Lent → Exit R × Names
+exit_named r l = (exit r l, names l.now)
 
 abbrev pub shown : {R : Type 0} → R → Shown → Exit R
 shown r l = (r, l.nodes.now, l.records.now, l.pending.now, l.found.now)

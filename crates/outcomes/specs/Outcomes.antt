@@ -3,7 +3,7 @@
 use Rattle.laws.specs.Outcomes.{OneOutcome, OneAnswer}
 use Rattle.tally.specs.declared.Played.{Played}
 use Rattle.tally.specs.Playing.{Told, told}
-use Rattle.outcomes.specs.Lent.{with, Exit, exit}
+use Rattle.outcomes.specs.Lent.{with, Exit, exit, exit_named}
 use Rattle.groups.proofs as groups
 use Rattle.unpack.proofs as unpack
 use Rattle.pack.proofs as pack
@@ -33,15 +33,15 @@ pub record Listed : Type 0 where
   pub lap_of_key : OneAnswer laps.lap_of_key.Reads.Post
   pub difference_of_pad : OneAnswer laps.difference_of_pad.Reads.Post
   -- tables
-  pub fresh : OneOutcome fresh.fresh.Reads.Post (λ r x. exit r x.1.1.0)
+  pub fresh : OneOutcome fresh.fresh.Reads.Post (λ r x. exit_named r x.1.1.0)
   pub is_sound : OneAnswer checking.is_sound.Reads.Post
   -- the machine
   pub start_insert : OneAnswer machine.start_insert.Reads.Post
   pub start_delete : OneAnswer machine.start_delete.Reads.Post
   pub start_find : OneAnswer machine.start_find.Reads.Post
   pub start_scan : OneAnswer machine.start_scan.Reads.Post
-  pub turn : OneOutcome machine.turn.Reads.Post (λ r x. exit r x.1.1.0)
-  pub run : OneOutcome machine.run.Reads.Post (λ r x. exit r x.1.1.1.0)
+  pub turn : OneOutcome machine.turn.Reads.Post (λ r x. exit_named r x.1.1.0)
+  pub run : OneOutcome machine.run.Reads.Post (λ r x. exit_named r x.1.1.1.0)
   pub list : OneOutcome lister.list.Reads.Post (λ r x. with r x.1.1.1.0)
   -- schedules
   pub read_opening : OneAnswer reader.read_opening.Reads.Post
@@ -51,7 +51,7 @@ pub record Listed : Type 0 where
   -- lines
   pub spell : OneOutcome spelling.spell.Reads.Post (λ r x. with r x.1.1.1.0)
   -- commands played
-  pub play : OneOutcome playing.play.Reads.Post (λ r x. exit r x.1.1.1.1.0)
+  pub play : OneOutcome playing.play.Reads.Post (λ r x. exit_named r x.1.1.1.1.0)
   pub begun : OneAnswer telling.begun.Reads.Post
   pub ran : OneAnswer telling.ran.Reads.Post
   pub no_board : OneAnswer tally.no_board.Reads.Post

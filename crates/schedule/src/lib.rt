@@ -5,7 +5,7 @@
 pub const MOST_BYTES: usize = 65_536;
 
 // The number that a command starts with.
-// Stays: no plainer as an enum, whose `TryFrom` and `as u32` would list these five numbers over again.
+// Stays: (d) an enum with these numbers would need a TryFrom that lists them once more, and each is read once and written once.
 pub const INSERT: u32 = 1;
 
 pub const DELETE: u32 = 2;

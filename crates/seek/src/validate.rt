@@ -44,7 +44,7 @@ fn child57(
     }
 }
 
-// Stays: (d) the cases are closed and each is met here alone: a function for each would be a table in place of this match.
+// Stays: (d) the cases are those of an enum: a function for each would be a table in place of this match.
 #[tactic(auto, unfolding(steps::specs::Validate::link_of))]
 pub fn link_of(
     t: Shared<'_>,
@@ -111,7 +111,7 @@ fn parent_left(nodes: &[u32], k: Key, parent: Option<NodeNo>) -> bool
     parent.is_some_and(|x| goes_left(nodes, k, x))
 }
 
-// Stays: (d) the cases are closed and each is met here alone: a function for each would be a table in place of this match.
+// Stays: (d) the cases are those of an enum: a function for each would be a table in place of this match.
 #[tactic(auto, unfolding(steps::specs::Validate::link_left))]
 pub fn link_left(nodes: &[u32], k: Key, v: Locals, a: Link) -> bool
     ensures { result ≡ link_left nodes.now k v a }

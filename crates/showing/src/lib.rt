@@ -47,6 +47,7 @@ fn say<W: Write>(out: &mut W, line: Line, found: &[i32], from: usize) -> io::Res
 }
 
 // The commands behind the opening, until none is left or one does not read.
+// Stays: (d) what goes round is the rest of the file; the number is the command's own, for its line.
 #[tactic(auto, using(crate::proofs::Parts::command_some, crate::proofs::Parts::command_there))]
 fn show_commands<W: Write>(
     out: &mut W,

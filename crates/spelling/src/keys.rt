@@ -18,7 +18,7 @@ fn key_at(found: &[i32], from: usize, i: usize) -> i32
 
 // So many keys from a place on, a blank before each.
 // Stays: (a) the page and its place go together as in `lines` (outcomes:Pages).
-#[tactic(auto, using(lines::specs::Keys::fill_no_keys, lines::specs::Keys::fill_one_more_key, lines::specs::Lengths::no_keys_length, lines::specs::Lengths::one_more_length))]
+#[tactic(auto, using(lines::specs::Keys::fill_zero_keys, lines::specs::Keys::fill_one_more_key, lines::specs::Lengths::zero_keys_length, lines::specs::Lengths::one_more_length))]
 pub fn put_keys(found: &[i32], from: usize, n: usize, out: &mut [u8], at: usize) -> usize
     ensures out_after { page result out.new ≡ fill (keys_text found.now from n) (page at out.old) }
     ensures n_len_bound { length (keys_text found.now from n) ≤ n * key_room }

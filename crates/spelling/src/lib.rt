@@ -70,7 +70,7 @@ fn bad(command: u32, out: &mut [u8; PAGE]) -> usize
 
 // Writes a line at the start of the page, and answers its length. A scan's keys stand in the found list from a place on; what lies
 // past its end counts as 0, and no more than 1,024 are listed.
-// Stays: (d) the cases are closed and each is met here alone: a function for each would be a table in place of this match.
+// Stays: (d) the cases are those of an enum: a function for each would be a table in place of this match.
 #[tactic(auto, unfolding(lines::specs::Text::line_text, lines::specs::Text::keys_of, lines::specs::Page::spelt))]
 pub fn spell(line: Line, found: &[i32], from: usize, out: &mut [u8; PAGE]) -> usize
     ensures { page result out.new ≡ spelt (text_of line found.now from) out.old }

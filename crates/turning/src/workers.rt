@@ -18,6 +18,7 @@ fn moved(o: Operation, q: Place) -> Operation
     }
 }
 
+// Stays: (d) three private functions in a row ask these bounds; a type made after `fits` would hold the same two, and be taken apart at once.
 // After any answer the worker is idle with none pending, and keeps its found keys.
 #[tactic(auto, unfolding(steps::specs::Turn::worker_next))]
 pub fn worker_next(k: Worker, o: Operation, d: Step) -> Worker
