@@ -11,7 +11,7 @@ use Rattle.lines.specs.Page.{Page, page}
 use Rattle.lending.specs.declared.Lent.{Lent}
 use Rattle.lending.specs.Lent.{SameLists}
 use Rattle.lending.specs.declared.Shown.{Shown}
-use Rattle.outcomes.specs.Lent.{with, exit, exit_named, names, shown, lists, all_left, all_ran, reply_back, run_back}
+use Rattle.outcomes.specs.Lent.{with, exit, exit_named, Names, names, shown, lists, all_left, all_ran, reply_back, run_back}
 
 -- ---- one list, or two
 
@@ -30,8 +30,10 @@ named : (l m n : Lent) → SameLists l n → SameLists m n → names l ≡ names
 named l m n e f = rw (e.0, e.1, e.2, e.3, f.0, f.1, f.2, f.3)
 
 -- what a call leaves, where its contract says beside that it leaves the very lists that were lent
-pub beside : {K A R E O L : Type 0} (given : A → MutBor Lent) (tables : E → MutBor Lent) (seen : R → E → O) (comes : A → O → L) (back : L → O) → ((a : A) (o : O) → back (comes a o) ≡ o) → (f : K → A → L) → OneOutcome (λ (k : K) (a : A) (r : R) (x : E). SameLists (tables x).now (given a).now × (comes a (seen r x) ≡ f k a)) (λ r x. (seen r x, names (tables x).now))
-beside given tables seen comes back returns f k a r q x y this that = ap₂ (λ o n. (o, n)) (one_outcome seen comes back returns f k a r q x y this.1 that.1) (named (tables x).now (tables y).now (given a).now this.0 that.0)
+pub beside : {K A R E O L : Type 0} (given : A → MutBor Lent) (tables : E → MutBor Lent) (seen : R → E → O) (comes : A → O → L) (back : L → O) → ((a : A) (o : O) → back (comes a o) ≡ o) → (f : K → A → L) → OneOutcome {O = O × Names} (λ (k : K) (a : A) (r : R) (x : E). SameLists (tables x).now (given a).now × (comes a (seen r x) ≡ f k a)) (λ r x. (seen r x, names (tables x).now))
+beside {O = O} given tables seen comes back returns f k a r q x y this that =
+    let both : O → Names → O × Names = λ o n. (o, n) in
+    ap₂ both (one_outcome seen comes back returns f k a r q x y this.1 that.1) (named (tables x).now (tables y).now (given a).now this.0 that.0)
 
 -- a call that may write to them
 pub writes : {K A E : Type 0} (given : A → MutBor Lent) (tables : E → MutBor Lent) (f : K → A → Left) → OneOutcome (λ (k : K) (a : A) (r : Reply) (x : E). SameLists (tables x).now (given a).now × (all_left (exit r (tables x)) ≡ f k a)) (λ r x. exit_named r (tables x))
