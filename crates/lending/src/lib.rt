@@ -6,6 +6,7 @@ ghost use Rattle.lending.specs.Lent.{lent_world, shown_world};
 ghost use Rattle.shapes.specs.declared.Board.{Board};
 
 // Lent to be written.
+// Stays: (a) that the lists in it are the ones lent (`SameLists`) is what each call promises: any four lists make a Lent.
 #[derive(Drop)]
 pub struct Lent<'a> {
     pub nodes: &'a mut [u32],

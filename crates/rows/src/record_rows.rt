@@ -57,6 +57,7 @@ fn entries_ok(t: Totals, rs: &[u32], r: RecordNo, count: u32) -> bool
 }
 
 // The entries are looked at only if there are few.
+// Stays: (d) this and `records_ok` alone take totals, nodes and records: `hand::Shared` stands above this crate, for those that decide.
 #[tactic(auto, unfolding(sound::specs::Sound::record_ok, laws::specs::Tests::all, laws::specs::Choice::pick))]
 fn record_ok(t: Totals, ns: &[u32], rs: &[u32], n: u32) -> bool
     ensures { result ≡ record_ok (tables t ns.now rs.now) n }

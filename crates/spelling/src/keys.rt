@@ -7,6 +7,7 @@ ghost use Rattle.lines.specs.Lengths.{key_room};
 use lines::put_next_signed;
 
 // Key i from a place on; 0 past the end.
+// Stays: (a) lines:Text.keys_text speaks of the found keys and a place in them.
 fn key_at(found: &[i32], from: usize, i: usize) -> i32
     ensures { result ≡ get_or found.now (from + i) (pos 0) }
 {
