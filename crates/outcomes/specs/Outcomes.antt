@@ -3,7 +3,7 @@
 use Rattle.laws.specs.Outcomes.{OneOutcome, OneAnswer}
 use Rattle.tally.specs.declared.Played.{Played}
 use Rattle.tally.specs.Playing.{Told, told}
-use Rattle.outcomes.specs.Lent.{with, Exit, exit, exit_named}
+use Rattle.outcomes.specs.Lent.{with, Exit, exit_named}
 use Rattle.groups.proofs as groups
 use Rattle.unpack.proofs as unpack
 use Rattle.pack.proofs as pack
