@@ -1,7 +1,7 @@
 // The calls: each prints what it came to, and what it left.
 use crate::digest::{of_board, of_lists};
 use crate::lists::Lists;
-use crate::telling::{Left, Listed, Told, say};
+use crate::telling::{Left, say, say_listing, say_number, say_outcome};
 use lending::Sizes;
 use machine::{start_delete, start_find, start_insert, start_scan};
 use shapes::{Board, Phase};
@@ -61,16 +61,18 @@ impl Call {
             Call::Turn(w) => machine::turn(board, w, lent),
             Call::Go(w, n) => {
                 let run = machine::run(board, w, n, lent);
-                let _ = print!(rt; " = {} after {}", Told(run.outcome), run.turns);
+                say_outcome(rt, run.outcome);
+                say(rt, b" after");
+                say_number(rt, run.turns);
                 return run.board;
             }
             Call::Version(phase) => {
                 let listing = lister::list(board, phase, lent.shown(), keys);
-                let _ = print!(rt; " = {}", Listed { listing, keys });
+                say_listing(rt, listing, keys);
                 return board;
             }
         };
-        let _ = print!(rt; " = {}", Told(reply.outcome));
+        say_outcome(rt, reply.outcome);
         reply.board
     }
 
@@ -81,8 +83,9 @@ impl Call {
         board: Board,
         lists: &mut Lists<'_>,
     ) -> Board {
-        let lent_before = of_lists(lists);
         say(rt, line);
+        say(rt, b" =");
+        let lent_before = of_lists(lists);
         let left = self.made(rt, board, lists);
         let lent = of_lists(lists);
         let told = Left {
@@ -91,7 +94,7 @@ impl Call {
             lent,
             same: lent_before == lent && of_board(&board) == of_board(&left),
         };
-        let _ = println!(rt; "; {told}");
+        told.say_to(rt);
         left
     }
 }

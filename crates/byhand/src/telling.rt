@@ -1,27 +1,56 @@
 // What is printed.
+// Stays: (a) each piece is a write of its own, not all a Display: where the output takes one and not the next, the same gets through as before.
 use shapes::{Answer, Outcome, Refusal, Totals, Worker};
-use std::fmt;
+use std::fmt::Display;
 
 // What cannot be written is passed over.
 pub fn say(rt: &impl Print, text: &[u8]) {
     let _ = rt.write_all(text);
 }
 
+pub fn say_number(rt: &impl Print, number: impl Display + Drop) {
+    let _ = print!(rt; " {number}");
+}
+
+fn say_keys(rt: &impl Print, count: impl Display + Drop) {
+    let _ = print!(rt; " keys {count}");
+}
+
+fn say_answer(rt: &impl Print, answer: Answer) {
+    match answer {
+        Answer::Yes => say(rt, b" yes"),
+        Answer::No => say(rt, b" no"),
+        Answer::Keys(count) => say_keys(rt, count),
+        Answer::NoRoom => say(rt, b" no-room"),
+        Answer::NoPhase => say(rt, b" no-phase"),
+    }
+}
+
+fn say_refusal(rt: &impl Print, why: Refusal) {
+    say(rt, b" refused");
+    say_number(rt, why as u32);
+}
+
 // What a start or a turn comes to.
-#[derive(Clone, Copy)]
-pub struct Told(pub Outcome);
-
-#[derive(Clone, Copy)]
-struct Said(Answer);
-
-#[derive(Clone, Copy)]
-struct Refused(Refusal);
+pub fn say_outcome(rt: &impl Print, outcome: Outcome) {
+    match outcome {
+        Ok(None) => say(rt, b" going"),
+        Ok(Some(answer)) => say_answer(rt, answer),
+        Err(why) => say_refusal(rt, why),
+    }
+}
 
 // A listing, with the list that its keys stand in.
-#[derive(Drop)]
-pub struct Listed<'a> {
-    pub listing: Result<usize, Refusal>,
-    pub keys: &'a [i32],
+pub fn say_listing(rt: &impl Print, listing: Result<usize, Refusal>, keys: &[i32]) {
+    match listing {
+        Ok(count) => {
+            say_keys(rt, count);
+            for key in keys.iter().take(count) {
+                say_number(rt, *key);
+            }
+        }
+        Err(why) => say_refusal(rt, why),
+    }
 }
 
 // What a call left: a worker's counts, a digest of all that is lent, and whether all is the same as before.
@@ -33,51 +62,15 @@ pub struct Left {
     pub same: bool,
 }
 
-impl fmt::Display for Said {
-    fn fmt<W: fmt::Write>(&self, f: &mut fmt::Formatter<W>) -> fmt::Result {
-        match self.0 {
-            Answer::Yes => write!(f, "yes"),
-            Answer::No => write!(f, "no"),
-            Answer::Keys(n) => write!(f, "keys {n}"),
-            Answer::NoRoom => write!(f, "no-room"),
-            Answer::NoPhase => write!(f, "no-phase"),
-        }
+fn say_numbers(rt: &impl Print, numbers: &[u32]) {
+    say(rt, b";");
+    for number in numbers {
+        say_number(rt, *number);
     }
 }
 
-impl fmt::Display for Refused {
-    fn fmt<W: fmt::Write>(&self, f: &mut fmt::Formatter<W>) -> fmt::Result {
-        write!(f, "refused {}", self.0 as u32)
-    }
-}
-
-impl fmt::Display for Told {
-    fn fmt<W: fmt::Write>(&self, f: &mut fmt::Formatter<W>) -> fmt::Result {
-        match self.0 {
-            Ok(None) => write!(f, "going"),
-            Ok(Some(answer)) => Said(answer).fmt(f),
-            Err(why) => Refused(why).fmt(f),
-        }
-    }
-}
-
-impl fmt::Display for Listed<'_> {
-    fn fmt<W: fmt::Write>(&self, f: &mut fmt::Formatter<W>) -> fmt::Result {
-        match self.listing {
-            Ok(n) => {
-                write!(f, "keys {n}")?;
-                for key in self.keys.iter().take(n) {
-                    write!(f, " {key}")?;
-                }
-                Ok(())
-            }
-            Err(why) => Refused(why).fmt(f),
-        }
-    }
-}
-
-impl fmt::Display for Left {
-    fn fmt<W: fmt::Write>(&self, f: &mut fmt::Formatter<W>) -> fmt::Result {
+impl Left {
+    pub fn say_to(self, rt: &impl Print) {
         let Totals {
             nodes,
             records,
@@ -85,11 +78,13 @@ impl fmt::Display for Left {
             ..
         } = self.totals;
         let Worker { pending, found, .. } = self.worker;
-        let lent = self.lent;
-        let same = if self.same { "same" } else { "changed" };
-        write!(
-            f,
-            "{nodes} {records} {counter}; {pending} {found}; {lent}; {same}"
-        )
+        say_numbers(rt, &[nodes, records, counter]);
+        say_numbers(rt, &[pending, found]);
+        say_numbers(rt, &[self.lent]);
+        if self.same {
+            say(rt, b"; same\n");
+        } else {
+            say(rt, b"; changed\n");
+        }
     }
 }

@@ -50,12 +50,12 @@ fn show_row(rt: &impl Print, row: &[u8; ROW]) {
     match kind {
         b'n' => {
             let mut buffer = [UNWRITTEN; BUFFER_SIZE];
-            say_spelt(rt, "number", first, spell(first, &mut buffer));
+            say_spelt(rt, "number ", first, spell(first, &mut buffer));
         }
         b's' => {
             let number = signed_word(first);
             let mut buffer = [UNWRITTEN; BUFFER_SIZE];
-            say_spelt(rt, "signed", number, spell_signed(number, &mut buffer));
+            say_spelt(rt, "signed ", number, spell_signed(number, &mut buffer));
         }
         b'r' => show_read(rt, "read", bytes, unpack::read(bytes)),
         b'g' => show_read(rt, "readsigned", bytes, unpack::read_signed(bytes)),
@@ -74,7 +74,11 @@ fn show_table(rt: &impl Print, table: &[u8]) {
         show_row(rt, row);
         say(rt, "\n");
     }
-    let _ = println!(rt; "end {} over {}", rows.len(), over.len());
+    say(rt, "end ");
+    say(rt, rows.len());
+    say(rt, " over ");
+    say(rt, over.len());
+    say(rt, "\n");
 }
 
 // More bytes than any table has: there may be still more.

@@ -2,13 +2,14 @@
 ghost use Rattle.std.specs.Prelude.{◌≤◌};
 
 use crate::buffers::{BUFFER_SIZE, UNWRITTEN, write_in_front};
-use crate::telling::{say, say_bytes, say_fault, say_key_refusal, say_read, say_size_refusal};
+use crate::telling::{
+    Number, say, say_bytes, say_fault, say_key_refusal, say_read, say_size_refusal,
+};
 use groups::{Fault, TooShort};
 use laps::OutOfRange;
-use std::fmt::Display;
 
 // What bytes read as, whichever the numbers are.
-pub fn show_read<N: Display + Drop>(
+pub fn show_read<N: Number>(
     rt: &impl Print,
     kind: &str,
     bytes: &[u8],
@@ -26,7 +27,13 @@ pub fn show_read<N: Display + Drop>(
 pub fn show_writing(rt: &impl Print, n: u32, at: usize, room: usize)
     requires { room ≤ 8 }
 {
-    let _ = print!(rt; "write {n} at {at} of {room} = ");
+    say(rt, "write ");
+    say(rt, n);
+    say(rt, " at ");
+    say(rt, at);
+    say(rt, " of ");
+    say(rt, room);
+    say(rt, " = ");
     let mut buffer = [UNWRITTEN; BUFFER_SIZE];
     match write_in_front(n, &mut buffer, at, room) {
         Ok(end) => say(rt, end),
@@ -36,32 +43,43 @@ pub fn show_writing(rt: &impl Print, n: u32, at: usize, room: usize)
 }
 
 pub fn show_lap(rt: &impl Print, difference: i32, entry: u32) {
-    let _ = print!(rt; "lap {difference} {entry} = ");
+    say(rt, "lap ");
+    difference.say_to(rt);
+    say(rt, " ");
+    say(rt, entry);
+    say(rt, " = ");
     match laps::key_of_lap(difference, entry) {
-        Ok(key) => say(rt, key),
+        Ok(key) => key.say_to(rt),
         Err(OutOfRange) => say_key_refusal(rt),
     }
 }
 
 pub fn show_key(rt: &impl Print, key: i32) {
-    let _ = print!(rt; "key {key} = ");
+    say(rt, "key ");
+    key.say_to(rt);
+    say(rt, " = ");
     match laps::lap_of_key(key) {
         Ok(lap) => {
-            let _ = print!(rt; "{} {}", lap.difference, lap.entry);
+            lap.difference.say_to(rt);
+            say(rt, " ");
+            say(rt, lap.entry);
         }
         Err(OutOfRange) => say_key_refusal(rt),
     }
 }
 
 pub fn show_pad(rt: &impl Print, thousandths: i32) {
-    let _ = print!(rt; "pad {thousandths} = ");
+    say(rt, "pad ");
+    thousandths.say_to(rt);
+    say(rt, " = ");
     match laps::difference_of_pad(thousandths) {
-        Ok(difference) => say(rt, difference),
+        Ok(difference) => difference.say_to(rt),
         Err(OutOfRange) => say_key_refusal(rt),
     }
 }
 
 // Stays: (d) a kind that is none has no case in an enum; it is shown as the number that it is.
 pub fn show_unknown(rt: &impl Print, kind: u8) {
-    let _ = print!(rt; "? {kind}");
+    say(rt, "? ");
+    say(rt, kind);
 }

@@ -1,9 +1,31 @@
 // The words of a line. What cannot be written is passed over.
+// Stays: (a) each piece is a write of its own: where the output takes one and not the next, the same gets through as before.
 use groups::Fault;
 use std::fmt::Display;
 
-pub fn say(rt: &impl Print, what: impl Display + Drop) {
-    let _ = rt.print(what);
+pub fn say(rt: &impl Print, piece: impl Display + Drop) {
+    let _ = rt.print(piece);
+}
+
+// A number of either kind.
+pub trait Number: Copy {
+    fn say_to(self, rt: &impl Print);
+}
+
+impl Number for u32 {
+    fn say_to(self, rt: &impl Print) {
+        say(rt, self);
+    }
+}
+
+// Stays: (a) the minus is a piece of its own, so not i32's Display.
+impl Number for i32 {
+    fn say_to(self, rt: &impl Print) {
+        if self < 0 {
+            say(rt, "-");
+        }
+        say(rt, self.unsigned_abs());
+    }
 }
 
 // Two digits of sixteen to each.
@@ -14,8 +36,11 @@ pub fn say_bytes(rt: &impl Print, bytes: &[u8]) {
 }
 
 // A number, how many groups it has, and the groups.
-pub fn say_spelt(rt: &impl Print, kind: &str, n: impl Display + Drop, groups: &[u8]) {
-    let _ = print!(rt; "{kind} {n} = {}", groups.len());
+pub fn say_spelt(rt: &impl Print, kind: &str, n: impl Number, groups: &[u8]) {
+    say(rt, kind);
+    n.say_to(rt);
+    say(rt, " = ");
+    say(rt, groups.len());
     say_bytes(rt, groups);
 }
 
@@ -29,8 +54,10 @@ pub fn say_fault(rt: &impl Print, fault: Fault) {
 }
 
 // What groups are read as, and how many bytes they took.
-pub fn say_read(rt: &impl Print, n: impl Display + Drop, taken: usize) {
-    let _ = print!(rt; "{n} {taken}");
+pub fn say_read(rt: &impl Print, n: impl Number, taken: usize) {
+    n.say_to(rt);
+    say(rt, " ");
+    say(rt, taken);
 }
 
 pub fn say_size_refusal(rt: &impl Print) {
