@@ -1,3 +1,4 @@
 pub mod Floor
 pub mod Inverse
+pub mod Quotients
 pub mod Keys

@@ -63,13 +63,23 @@ pub fn key_of_lap(difference: i32, entry: u32) -> Result<i32, OutOfRange>
 }
 
 // The difference and entry that a key stands for, in range or not.
-#[tactic(auto, unfolding(crate::specs::Laps::lap_at, crate::specs::Laps::floor_div, crate::specs::Laps::floor_rest))]
+// Stays: (a) docs/MACHINE.md, 'Form by location': signed division corrected; and laps:Floor's laws are of this correction.
 fn lap_at(key: i32) -> Lap
     ensures { result ≡ lap_at key }
 {
-    Lap {
-        difference: key.div_euclid(ENTRIES),
-        entry: key.rem_euclid(ENTRIES) as u32,
+    let quotient = key / ENTRIES;
+    let rest = key % ENTRIES;
+    // `/` drops the fraction: below zero that is one too high, unless nothing remains
+    if rest < 0 {
+        let difference = quotient - 1;
+        let entry = (rest + ENTRIES) as u32;
+        Lap { difference, entry }
+    } else {
+        let entry = rest as u32;
+        Lap {
+            difference: quotient,
+            entry,
+        }
     }
 }
 
