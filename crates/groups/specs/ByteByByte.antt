@@ -4,6 +4,7 @@ use Rattle.std.proofs.Common.{subst, arith, take_all, ltb-true, ltb-false, lt-lt
 use Rattle.std.proofs.lemmas.Bool.{eqb-false}
 use Rattle.laws.specs.Choice.{fork, pick_true, pick_false}
 use Rattle.groups.specs.Format.{group, most_groups, held, joined, read_up_to, reading, Reading}
+use Rattle.groups.specs.declared.Fault.{Fault}
 use Rattle.groups.specs.declared.Fault.TheVariants.{CutShort, NotShortest, TooLong, TooLarge}
 
 -- ---- what the first byte decides
@@ -55,6 +56,10 @@ joins_none width byte above taken e = pick_true _ _ _ (eq-eqb above 0 e)
 pub joins : (width byte above taken : ℕ) → 1 ≤ above → joined width byte (Ok (above, taken)) ≡ held width (byte - group + group * above) (taken + 1)
 unfolding joined
 joins width byte above taken h = pick_false _ _ _ (ne_eqb above 0 (λ e. omega arith))
+
+-- a fault is no number
+pub no_number : {fault : Fault} {n taken : ℕ} → ◌≡◌ {A = Reading} (Err fault) (Ok (n, taken)) → ⊥
+no_number e = cc
 
 -- ---- what holds of every number that reads
 

@@ -1,8 +1,9 @@
--- The digits of a number, one by one, and how many there are.
-use Rattle.std.specs.Prelude.{◌≡◌, List, [], ◌∷◌, ◌++◌, ℕ, zero, suc, ◌/◌, ◌%◌, ◌^◌, ◌≤◌, ◌<◌, ltb, length}
+-- The digits of a number, one by one, how many there are, and its sign.
+use Rattle.std.specs.Prelude.{◌≡◌, List, [], ◌∷◌, ◌++◌, ℕ, zero, suc, ◌+◌, ◌*◌, ◌/◌, ◌%◌, ◌^◌, ◌≤◌, ◌<◌, ltb, ℤ, pos, negsuc, length}
 use Rattle.std.proofs.Common.{sym, ap, ◌∙◌, pow-suc, arith, length-append, ltb-true, ltb-false, lt-ltb, le-ltb}
 use Rattle.laws.specs.Choice.{fork, pick_true, pick_false}
-use Rattle.lines.specs.Text.{digit, digits_up_to, decimal}
+use Rattle.groups.specs.Format.{code_of}
+use Rattle.lines.specs.Text.{minus, digit, digits_up_to, decimal, signed}
 
 -- what holds of one digit, and of a digit behind those above it, holds of every number
 each_digits {κ} : (Q : List ℕ → Type κ) (k n : ℕ) → (n < 10 → Q (digit n ∷ [])) → (10 ≤ n → Q (digits_up_to k (n / 10) ++ (digit (n % 10) ∷ []))) → Q (digits_up_to (suc k) n)
@@ -46,3 +47,15 @@ up_to_short (suc k) (suc j) n h = each_digits (λ l. length l ≤ suc (suc j)) k
 pub short : (j n : ℕ) → n < 10 ^ suc j → length (decimal n) ≤ suc j
 unfolding decimal
 short j n h = up_to_short (suc n) j n h
+
+-- ---- signed numbers, by the code that a schedule sends
+
+pub signed_natural : (z : ℤ) → code_of z % 2 ≡ 0 → signed z ≡ decimal (code_of z / 2)
+unfolding signed code_of
+signed_natural (pos n) h = let e : 2 * n / 2 ≡ n = omega arith in rw e
+signed_natural (negsuc m) h = absurd (omega arith)
+
+pub signed_negative : (z : ℤ) → (code_of z % 2 ≡ 0 → ⊥) → signed z ≡ minus ∷ decimal (code_of z / 2 + 1)
+unfolding signed code_of
+signed_negative (pos n) h = absurd (h (omega arith))
+signed_negative (negsuc m) h = let e : (2 * m + 1) / 2 + 1 ≡ suc m = omega arith in rw e

@@ -1,10 +1,10 @@
 -- The keys of a found list, one by one, and in the line of their answer.
-use Rattle.std.specs.Prelude.{◌≡◌, refl, List, ◌∷◌, ◌++◌, map, ℕ, zero, suc, ◌+◌, ◌-◌, ◌≤◌, ℤ, pos, get_or}
+use Rattle.std.specs.Prelude.{◌≡◌, refl, List, ◌∷◌, ◌++◌, map, ℕ, zero, suc, ◌+◌, ◌-◌, ◌≤◌, ◌<◌, ℤ, pos, get_or}
 use Rattle.std.proofs.Common.{arith, add-one, append-nil, append_assoc}
 use Rattle.shapes.specs.declared.Answer.{Answer}
 use Rattle.shapes.specs.declared.Answer.TheVariants.{Yes, No, Keys, NoRoom, NoPhase}
 use Rattle.lines.specs.Text.{blank, decimal, signed, answer_word, spaced, line_of, keys_words, answered_text, keys_at, keys_text, listed_of}
-use Rattle.lines.specs.Page.{Page, fill, fill-append}
+use Rattle.lines.specs.Page.{Page, fill, fill-append, fill-word}
 
 -- one key more stands last
 pub one_more_key : (found : List ℤ) (from i : ℕ) → keys_text found from (suc i) ≡ keys_text found from i ++ (blank ∷ signed (get_or found (from + i) (pos 0)))
@@ -19,6 +19,17 @@ one_more_key found from (suc i) =
 pub fill_zero_keys : (found : List ℤ) (from : ℕ) (p : Page) → fill (keys_text found from 0) p ≡ p
 unfolding keys_at spaced fill
 fill_zero_keys found from p = refl
+
+-- the next key, where i of n have been put
+pub keys_next : (found : List ℤ) (from n i : ℕ) → i < n → keys_at found (from + i) (n - i) ≡ get_or found (from + i) (pos 0) ∷ keys_at found (from + (i + 1)) (n - (i + 1))
+unfolding keys_at
+keys_next found from n i h =
+    let left : n - i ≡ suc (n - (i + 1)) = omega arith in
+    let next : suc (from + i) ≡ from + (i + 1) = omega arith in
+    rw (left, next)
+
+pub fill_keys : (found : List ℤ) (from n i : ℕ) (p : Page) → i < n → fill (keys_text found (from + i) (n - i)) p ≡ fill (keys_text found (from + (i + 1)) (n - (i + 1))) (fill (blank ∷ signed (get_or found (from + i) (pos 0))) p)
+fill_keys found from n i p h = rw (keys_next found from n i h) (fill-word _ _ p)
 
 -- nothing is left of n keys from the n-th on
 pub fill_no_keys : (found : List ℤ) (from n i : ℕ) (p : Page) → n ≤ i → fill (keys_text found (from + i) (n - i)) p ≡ p

@@ -9,7 +9,7 @@ use Rattle.shapes.specs.declared.Refusal.{Refusal}
 use Rattle.shapes.specs.declared.Refusal.TheVariants as refusal
 use Rattle.lines.specs.Text.{line_feed, blank, decimal, signed, answer_word, spaced, line_of, answered_text, refused_text, end_text, bad_text, most_keys, keys_at, keys_text, listed_of}
 use Rattle.lines.specs.Digits.{short}
-use Rattle.lines.specs.Keys.{one_more_key, answered_line}
+use Rattle.lines.specs.Keys.{keys_next, one_more_key, answered_line}
 
 -- how many bytes a page has
 abbrev pub size : ℕ
@@ -50,6 +50,13 @@ key-short : (z : ℤ) → SFits w32 z → length (signed z) ≤ 11
 unfolding signed
 key-short (pos n) f = omega (arith, ten_digits n (omega (arith, f.sfits)))
 key-short (negsuc m) f = omega (arith, ten_digits (suc m) (omega (arith, f.sfits)))
+
+-- the next key's share, where i of n have been put
+pub keys_length : (found : List ℤ) (from n i : ℕ) → i < n → SFits w32 (get_or found (from + i) (pos 0)) → length (keys_text found (from + i) (n - i)) ≤ key_room + length (keys_text found (from + (i + 1)) (n - (i + 1)))
+unfolding spaced
+keys_length found from n i h f =
+    let key = get_or found (from + i) (pos 0) in
+    rw (keys_next found from n i h, length-append (signed key) (keys_text found (from + (i + 1)) (n - (i + 1)))) (omega (arith, key-short key f))
 
 -- the last key's share
 pub one_more_length : (found : List ℤ) (from i : ℕ) → SFits w32 (get_or found (from + i) (pos 0)) → length (keys_text found from (i + 1)) ≤ length (keys_text found from i) + key_room

@@ -1,6 +1,6 @@
 -- A page that is written from its start.
 use Rattle.std.specs.Prelude.{◌≡◌, refl, List, [], ◌∷◌, ◌++◌, ℕ, suc, ◌+◌, ◌≤◌, ◌<◌, ltb, length, get_or, set, take, drop}
-use Rattle.std.proofs.Common.{sym, ap, ◌∙◌, add-one, zero-add, arith, length-set, length-append, lt-ltb, le-ltb}
+use Rattle.std.proofs.Common.{sym, ap, ◌∙◌, add-one, zero-add, arith, length-set, length-append, drop_of_length-le, drop-cons, lt-ltb, le-ltb}
 use Rattle.std.proofs.lemmas.List.Edits.{sets, sets-eq}
 use Rattle.std.proofs.Math.Seq.{take-append_seam, take-suc}
 use Rattle.laws.specs.Choice.{pick, pick_true, pick_false}
@@ -41,6 +41,15 @@ fill_one b at bytes h = sym (pick_true _ _ _ (lt-ltb at (length bytes) h))
 pub fill_full : (b at : ℕ) (bytes : List ℕ) → length bytes ≤ at → page at bytes ≡ fill (b ∷ []) (page at bytes)
 unfolding fill one
 fill_full b at bytes h = sym (pick_false _ _ _ (le-ltb at (length bytes) h))
+
+-- the next byte of a text, in a loop that has put i of them
+pub fill-drop : (text : List ℕ) (i : ℕ) (p : Page) → i < length text → fill (drop i text) p ≡ fill (drop (i + 1) text) (fill (get_or text i 0 ∷ []) p)
+unfolding fill
+fill-drop text i p h = rw (add-one, drop-cons text i 0 h)
+
+pub fill_dropped : (text : List ℕ) (i : ℕ) (p : Page) → length text ≤ i → fill (drop i text) p ≡ p
+unfolding fill
+fill_dropped text i p h = rw (drop_of_length-le text h)
 
 -- a text's first bytes: none of them, and one more
 pub fill_none : (p : Page) → fill [] p ≡ p

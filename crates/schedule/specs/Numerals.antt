@@ -87,6 +87,10 @@ numbers_counted = each_found Counted
     (λ k s n taken ns end at rest. let one : Inside bits (most_groups bits) s n taken = number_inside s at in
     record { many = ap suc rest.many; fits = below_cons (2 ^ bits) n ns one.fits rest.fits; some = omega (arith, rest.some, one.some); there = omega (arith, rest.there, length-drop taken s, one.there) })
 
+-- a fault is no numbers
+pub no_numbers : {ns : List ℕ} {end : ℕ} → ◌≡◌ {A = Found} None (Some (ns, end)) → ⊥
+no_numbers e = cc
+
 -- the first of several numbers is the one that reads
 pub first_is : (k : ℕ) (s ns : List ℕ) (kind taken end : ℕ) → 1 ≤ k → read_of s ≡ Ok (kind, taken) → numbers_at k s ≡ Some (ns, end) → get_or ns 0 0 ≡ kind
 first_is zero s ns kind taken end some at e = absurd (omega arith)
