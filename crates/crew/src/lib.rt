@@ -108,9 +108,11 @@ fn worker_ok(board: Board, records: &[u32], pending: &[u32], w: u32) -> bool
         && condition_ok(records, k.hand, k.pending, k.operation)
 }
 
-// Every worker.
+// Every worker, from the last.
 pub fn workers_ok(board: Board, records: &[u32], pending: &[u32]) -> bool
     ensures { (ns : List ℕ) (fs : List ℤ) → result ≡ every board.totals.p (worker_ok (world board ns records.now pending.now fs)) }
 {
-    (0..board.totals.p).all(|w| worker_ok(board, records, pending, w))
+    (0..board.totals.p)
+        .rev()
+        .all(|w| worker_ok(board, records, pending, w))
 }

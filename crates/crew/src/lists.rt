@@ -19,11 +19,11 @@ fn pending_node_ok(t: Totals, pending: &[u32], w: u32, i: u32) -> bool
     used_node(t, NodeNo(x))
 }
 
-// The nodes that worker w has pending.
+// The nodes that worker w has pending, from the last.
 fn pending_ok(t: Totals, pending: &[u32], w: u32, count: u32) -> bool
     ensures { result ≡ every count (λ i. used_node t (node (get_or pending.now (spot t w i) 0))) }
 {
-    (0..count).all(|i| pending_node_ok(t, pending, w, i))
+    (0..count).rev().all(|i| pending_node_ok(t, pending, w, i))
 }
 
 // Pending and found counts are at most N, and pending nodes are used; they are looked at only if there are few.

@@ -19,11 +19,11 @@ pub fn root_ok(ns: &[u32]) -> bool
     let root = ROOT;
     let key = rank_at(ns, root);
     let phase = phase_at(ns, root);
-    kind_at(ns, root) == INTERNAL
-        && key.class == INFINITY_2
-        && key.word == 0
-        && phase.0 == 0
-        && prev_at(ns, root).is_none()
+    (kind_at(ns, root) == INTERNAL)
+        & (key.class == INFINITY_2)
+        & (key.word == 0)
+        & (phase.0 == 0)
+        & prev_at(ns, root).is_none()
 }
 
 // A finite key, or an infinite one with no word beside it.
@@ -31,7 +31,7 @@ pub fn root_ok(ns: &[u32]) -> bool
 fn rank_ok(k: Rank) -> bool
     ensures { result ≡ rank_ok k }
 {
-    k.class <= INFINITY_2 && (k.class == 0 || k.word == 0)
+    (k.class <= INFINITY_2) & ((k.class == 0) | (k.word == 0))
 }
 
 // Absent or a smaller number than the node's own.
@@ -50,28 +50,29 @@ fn children_ok(t: Totals, ns: &[u32], x: NodeNo) -> bool
     let left = child_at(ns, x, true);
     let right = child_at(ns, x, false);
     if is_internal(ns, x) {
-        used_node(t, left) && used_node(t, right)
+        used_node(t, left) & used_node(t, right)
     } else {
-        left.0 == 0 && right.0 == 0
+        (left.0 == 0) & (right.0 == 0)
     }
 }
 
+// Joined by &, as all tests of a node are: a branch after each made the look at full tables a fifth dearer.
 #[tactic(auto, unfolding(sound::specs::Sound::node_ok, laws::specs::Tests::all, laws::specs::Choice::pick))]
 fn node_ok(t: Totals, ns: &[u32], n: u32) -> bool
     ensures { result ≡ node_ok t ns.now n }
 {
     let x = NodeNo(n);
-    kind_at(ns, x) <= INTERNAL
-        && rank_ok(rank_at(ns, x))
-        && phase_ok(t, phase_at(ns, x))
-        && prev_ok(n, prev_at(ns, x))
-        && word_ok(t, update_at(ns, x))
-        && children_ok(t, ns, x)
+    (kind_at(ns, x) <= INTERNAL)
+        & rank_ok(rank_at(ns, x))
+        & phase_ok(t, phase_at(ns, x))
+        & prev_ok(n, prev_at(ns, x))
+        & word_ok(t, update_at(ns, x))
+        & children_ok(t, ns, x)
 }
 
-// Every used node.
+// Every used node, from the last.
 pub fn nodes_ok(t: Totals, ns: &[u32]) -> bool
     ensures { result ≡ every t.nodes (node_ok t ns.now) }
 {
-    (0..t.nodes).all(|n| node_ok(t, ns, n))
+    (0..t.nodes).rev().all(|n| node_ok(t, ns, n))
 }

@@ -49,11 +49,13 @@ fn count_ok(ns: &[u32], par: NodeNo, c: u32) -> bool
     c == 0 || (c == INSERT_LISTS || c == DELETE_LISTS) && is_internal(ns, par)
 }
 
-// The nodes that record r lists, from 1.
+// The nodes that record r lists, from the last; entry i + 1 never wraps, since i is below the count.
 fn entries_ok(t: Totals, rs: &[u32], r: RecordNo, count: u32) -> bool
     ensures { result ≡ every count (λ i. entry_ok t (entry_at rs.now r (suc i))) }
 {
-    (1..=count).all(|i| entry_ok(t, entry_at(rs, r, i)))
+    (0..count)
+        .rev()
+        .all(|i| entry_ok(t, entry_at(rs, r, i.wrapping_add(1))))
 }
 
 // The entries are looked at only if there are few.
@@ -74,9 +76,9 @@ fn record_ok(t: Totals, ns: &[u32], rs: &[u32], n: u32) -> bool
         && entries_ok(t, rs, r, count)
 }
 
-// Every used record but the dummy.
+// Every used record but the dummy, from the last.
 pub fn records_ok(t: Totals, ns: &[u32], rs: &[u32]) -> bool
     ensures { result ≡ every (t.records - 1) (λ i. record_ok (tables t ns.now rs.now) (suc i)) }
 {
-    (1..t.records).all(|n| record_ok(t, ns, rs, n))
+    (1..t.records).rev().all(|n| record_ok(t, ns, rs, n))
 }
