@@ -17,13 +17,17 @@ fn stir_all(sum: u32, words: &[u32]) -> u32 {
 }
 
 // A signed number goes in by the code by which a schedule sends it.
+fn stir_keys(sum: u32, keys: &[i32]) -> u32 {
+    keys.iter()
+        .fold(sum, |all, key| stir(all, groups::code(*key)))
+}
+
+// A list at a time: one fold over the lists chained takes half as long again.
 pub fn of_lists(lists: &Lists<'_>) -> u32 {
-    let shared = lists.tables.nodes.iter().chain(lists.tables.records.iter());
-    let words = shared.chain(lists.tables.pending.iter()).copied();
-    let keys = lists.tables.found.iter().chain(lists.keys.iter());
-    words
-        .chain(keys.map(|key| groups::code(*key)))
-        .fold(0, stir)
+    let tables = &lists.tables;
+    let shared = stir_all(stir_all(0, tables.nodes), tables.records);
+    let listed = stir_keys(stir_all(shared, tables.pending), tables.found);
+    stir_keys(listed, lists.keys)
 }
 
 fn stir_maybe(sum: u32, node: Option<NodeNo>) -> u32 {

@@ -24,7 +24,7 @@ mod rows; // a line to each kind of row
 use crate::buffers::{BUFFER_SIZE, UNWRITTEN, spell, spell_signed};
 use crate::numbers::{signed_word, word_at};
 use crate::rows::{show_key, show_lap, show_pad, show_read, show_unknown, show_writing};
-use crate::telling::{say, say_spelt};
+use crate::telling::{say, say_number, say_spelt};
 use input::{read_all, room};
 
 const ROW: usize = 10;
@@ -50,15 +50,15 @@ fn show_row(rt: &impl Print, row: &[u8; ROW]) {
     match kind {
         b'n' => {
             let mut buffer = [UNWRITTEN; BUFFER_SIZE];
-            say_spelt(rt, "number ", first, spell(first, &mut buffer));
+            say_spelt(rt, b"number ", first, spell(first, &mut buffer));
         }
         b's' => {
             let number = signed_word(first);
             let mut buffer = [UNWRITTEN; BUFFER_SIZE];
-            say_spelt(rt, "signed ", number, spell_signed(number, &mut buffer));
+            say_spelt(rt, b"signed ", number, spell_signed(number, &mut buffer));
         }
-        b'r' => show_read(rt, "read", bytes, unpack::read(bytes)),
-        b'g' => show_read(rt, "readsigned", bytes, unpack::read_signed(bytes)),
+        b'r' => show_read(rt, b"read", bytes, unpack::read(bytes)),
+        b'g' => show_read(rt, b"readsigned", bytes, unpack::read_signed(bytes)),
         b'w' => show_writing(rt, first, row[SECOND] as usize, count),
         b'l' => show_lap(rt, signed_word(first), word_at(row, SECOND)),
         b'k' => show_key(rt, signed_word(first)),
@@ -72,19 +72,19 @@ fn show_table(rt: &impl Print, table: &[u8]) {
     let (rows, over) = table.as_chunks::<ROW>();
     for row in rows {
         show_row(rt, row);
-        say(rt, "\n");
+        say(rt, b"\n");
     }
-    say(rt, "end ");
-    say(rt, rows.len());
-    say(rt, " over ");
-    say(rt, over.len());
-    say(rt, "\n");
+    say(rt, b"end ");
+    say_number(rt, rows.len());
+    say(rt, b" over ");
+    say_number(rt, over.len());
+    say(rt, b"\n");
 }
 
 // More bytes than any table has: there may be still more.
 fn show_input(rt: &impl Print, input: &[u8]) {
     if MOST < input.len() {
-        say(rt, "bad input: longer than 65536 bytes\n");
+        say(rt, b"bad input: longer than 65536 bytes\n");
         return;
     }
     show_table(rt, input);
@@ -94,6 +94,6 @@ fn main(rt: HostRuntime) {
     let mut table = room();
     match read_all(&mut rt.stdin(), &mut table) {
         Ok(size) => show_input(&rt, &table[..size]),
-        Err(_) => say(&rt, "bad input: cannot be read\n"),
+        Err(_) => say(&rt, b"bad input: cannot be read\n"),
     }
 }

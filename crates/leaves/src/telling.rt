@@ -3,8 +3,12 @@
 use groups::Fault;
 use std::fmt::Display;
 
-pub fn say(rt: &impl Print, piece: impl Display + Drop) {
-    let _ = rt.print(piece);
+pub fn say(rt: &impl Print, text: &[u8]) {
+    let _ = rt.write_all(text);
+}
+
+pub fn say_number(rt: &impl Print, number: impl Display + Drop) {
+    let _ = rt.print(number);
 }
 
 // A number of either kind.
@@ -14,7 +18,7 @@ pub trait Number: Copy {
 
 impl Number for u32 {
     fn say_to(self, rt: &impl Print) {
-        say(rt, self);
+        say_number(rt, self);
     }
 }
 
@@ -22,9 +26,9 @@ impl Number for u32 {
 impl Number for i32 {
     fn say_to(self, rt: &impl Print) {
         if self < 0 {
-            say(rt, "-");
+            say(rt, b"-");
         }
-        say(rt, self.unsigned_abs());
+        say_number(rt, self.unsigned_abs());
     }
 }
 
@@ -36,34 +40,34 @@ pub fn say_bytes(rt: &impl Print, bytes: &[u8]) {
 }
 
 // A number, how many groups it has, and the groups.
-pub fn say_spelt(rt: &impl Print, kind: &str, n: impl Number, groups: &[u8]) {
+pub fn say_spelt(rt: &impl Print, kind: &[u8], n: impl Number, groups: &[u8]) {
     say(rt, kind);
     n.say_to(rt);
-    say(rt, " = ");
-    say(rt, groups.len());
+    say(rt, b" = ");
+    say_number(rt, groups.len());
     say_bytes(rt, groups);
 }
 
 pub fn say_fault(rt: &impl Print, fault: Fault) {
     match fault {
-        Fault::CutShort => say(rt, "fault cut"),
-        Fault::NotShortest => say(rt, "fault shortest"),
-        Fault::TooLong => say(rt, "fault long"),
-        Fault::TooLarge => say(rt, "fault large"),
+        Fault::CutShort => say(rt, b"fault cut"),
+        Fault::NotShortest => say(rt, b"fault shortest"),
+        Fault::TooLong => say(rt, b"fault long"),
+        Fault::TooLarge => say(rt, b"fault large"),
     }
 }
 
 // What groups are read as, and how many bytes they took.
 pub fn say_read(rt: &impl Print, n: impl Number, taken: usize) {
     n.say_to(rt);
-    say(rt, " ");
-    say(rt, taken);
+    say(rt, b" ");
+    say_number(rt, taken);
 }
 
 pub fn say_size_refusal(rt: &impl Print) {
-    say(rt, "refused 2");
+    say(rt, b"refused 2");
 }
 
 pub fn say_key_refusal(rt: &impl Print) {
-    say(rt, "refused 6");
+    say(rt, b"refused 6");
 }
