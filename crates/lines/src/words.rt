@@ -11,7 +11,7 @@ use shapes::{Answer, Refusal};
 const MOST_KEYS: u32 = 1024;
 
 // A blank and the word.
-// Stays: (a) a line's bytes are promised (lines:Text), and std's fmt promises nothing of what it writes.
+// Stays: (a) a line's bytes are promised (lines:Text) on a page, and std's write_fmt wants a writer.
 #[tactic(auto, unfolding(crate::specs::Text::answer_word))]
 pub fn put_answer(answer: Answer, out: &mut [u8], at: usize) -> usize
     ensures { page result out.new ≡ fill (blank ∷ answer_word answer) (page at out.old) }

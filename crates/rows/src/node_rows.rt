@@ -56,7 +56,7 @@ fn children_ok(t: Totals, ns: &[u32], x: NodeNo) -> bool
     }
 }
 
-// Joined by &, as all tests of a node are: a branch after each made the look at full tables a fifth dearer.
+// Joined by &, as the other tests in this file are: a branch after each made the look at full tables a fifth dearer.
 #[tactic(auto, unfolding(sound::specs::Sound::node_ok, laws::specs::Tests::all, laws::specs::Choice::pick))]
 fn node_ok(t: Totals, ns: &[u32], n: u32) -> bool
     ensures { result ≡ node_ok t ns.now n }
