@@ -1,4 +1,6 @@
 // One line obeyed, on what is kept and what is lent.
+ghost use Rattle.std.specs.Prelude.{◌≤◌, length};
+
 use crate::command::Command;
 use crate::lists::{Lent, Lists};
 use crate::telling::say;
@@ -34,7 +36,9 @@ pub struct Desk {
 }
 
 // No more than there is.
-fn part<T>(list: &mut [T], asked: u32) -> &mut [T] {
+fn part<T>(list: &mut [T], asked: u32) -> &mut [T]
+    ensures { length result.now ≤ length list.old }
+{
     let size = (asked as usize).min(list.len());
     &mut list[..size]
 }

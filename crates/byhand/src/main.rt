@@ -27,6 +27,8 @@ mod calling; // the calls
 mod command; // what a line asks for
 mod desk; // one line obeyed
 
+ghost use Rattle.std.specs.Prelude.{◌≤◌, length};
+
 use crate::desk::Desk;
 use std::io::Read;
 
@@ -35,7 +37,9 @@ const MOST: usize = 65_536;
 
 // Reads to the end, or until the buffer is full. A read that fails is an end too: what came before is played.
 // Stays: (d) the count, and a read that fails is an end: read_exact does not say how much came, and read_to_end asks for memory, which may fail.
-fn read_full<'a, R: Read>(from: &mut R, buffer: &'a mut [u8]) -> &'a [u8] {
+fn read_full<'a, R: Read>(from: &mut R, buffer: &'a mut [u8]) -> &'a [u8]
+    ensures { length result.now ≤ length buffer.old }
+{
     let mut done = 0;
     while let Ok(came @ 1..) = from.read(&mut buffer[done..]) {
         done += came;
